@@ -1,0 +1,7 @@
+-- The laws that the proofs of this crate and of the crates above it cite.
+pub mod Cases
+pub mod Floats
+pub mod Ranks
+pub mod Fields
+pub mod Stores
+pub mod Answers

@@ -1,0 +1,133 @@
+// IADD, ABS, AND, OR, XOR, NOT, LZ, EXEXP and EXMAN: the words that they compute and the flags that they set.
+use crate::words::keep;
+use std::num::wrapping_add_u32;
+use std::num::wrapping_sub_u32;
+ghost use mathlib.Core.Path.{_≡_};
+ghost use Rattle.lane.specs.Compute as Compute;
+
+// The flag afterwards: `truth` where the instruction sets it, else the old one; inverted where mod has 8.
+pub fn flag_after(sets: bool, truth: bool, m: u32, old: u32) -> u32
+    ensures { λ r. ⌜ r ≡ Compute.flagAfter sets truth m old ⌝ }
+{
+    let flag = keep(sets, keep(truth, 1, 0), old);
+    if m / 8 % 2 == 1 {
+        keep(flag == 0, 1, 0)
+    } else {
+        flag
+    }
+}
+
+// A 12-bit number, extended by its sign.
+pub fn extended(imm: u32) -> u32
+    ensures { λ r. ⌜ r ≡ Compute.extended imm ⌝ }
+{
+    let low = imm % 4096;
+    if low < 2048 { low } else { low + 0xFFFF_F000 }
+}
+
+// The difference, wrapping.
+pub fn minus(a: u32, b: u32) -> u32
+    ensures { λ r. ⌜ r ≡ Compute.minus a b ⌝ }
+{
+    wrapping_sub_u32(a, b)
+}
+
+// IADD's word.
+pub fn iadd_word(m: u32, imm: u32, c: u32, d: u32) -> u32
+    ensures { λ r. ⌜ r ≡ Compute.iaddWord m imm c d ⌝ }
+{
+    if m % 2 == 1 {
+        wrapping_add_u32(c, extended(imm))
+    } else if m / 2 % 2 == 1 {
+        minus(c, d)
+    } else {
+        wrapping_add_u32(c, d)
+    }
+}
+
+// IADD's flag.
+pub fn iadd_flag(m: u32, result: u32, old: u32) -> u32
+    ensures { λ r. ⌜ r ≡ Compute.iaddFlag m result old ⌝ }
+{
+    flag_after(!(m / 4 % 2 == 1), 0x8000_0000 <= result, m, old)
+}
+
+// The word whose leading zeros LZ counts.
+pub fn lz_operand(m: u32, c: u32) -> u32
+    ensures { λ r. ⌜ r ≡ Compute.lzOperand m c ⌝ }
+{
+    if m / 4 % 2 == 1 { c % 0x8000_0000 } else { c }
+}
+
+// LZ's word.
+pub fn lz_word(m: u32, c: u32) -> u32
+    ensures { λ r. ⌜ r ≡ Compute.lzWord m c ⌝ }
+{
+    u32::leading_zeros(lz_operand(m, c))
+}
+
+// LZ's flag.
+pub fn lz_flag(m: u32, c: u32, old: u32) -> u32
+    ensures { λ r. ⌜ r ≡ Compute.lzFlag m c old ⌝ }
+{
+    flag_after(m / 2 % 2 == 1, !(lz_operand(m, c) == 0), m, old)
+}
+
+// EXEXP's word.
+pub fn exexp_word(m: u32, c: u32) -> u32
+    ensures { λ r. ⌜ r ≡ Compute.exexpWord m c ⌝ }
+{
+    let exponent = c / 0x80_0000 % 256;
+    if m % 2 == 1 {
+        exponent
+    } else {
+        minus(exponent, 127)
+    }
+}
+
+// EXEXP's flag.
+pub fn exexp_flag(m: u32, result: u32, old: u32) -> u32
+    ensures { λ r. ⌜ r ≡ Compute.exexpFlag m result old ⌝ }
+{
+    flag_after(m / 2 % 2 == 1, 0x8000_0000 <= result, m, old)
+}
+
+// ABS's word.
+pub fn abs_word(m: u32, c: u32) -> u32
+    ensures { λ r. ⌜ r ≡ Compute.absWord m c ⌝ }
+{
+    if m % 2 == 1 {
+        if 0x7F80_0000 < c % 0x8000_0000 {
+            c
+        } else {
+            c % 0x8000_0000
+        }
+    } else {
+        if 0x8000_0000 <= c {
+            0xFFFF_FFFF - c + 1
+        } else {
+            c
+        }
+    }
+}
+
+// EXMAN's word.
+pub fn exman_word(m: u32, c: u32) -> u32
+    ensures { λ r. ⌜ r ≡ Compute.exmanWord m c ⌝ }
+{
+    c % 0x80_0000 + keep(m % 2 == 1, 0, 0x80_0000)
+}
+
+// The word of an operation that computes nothing else, from the words of vb, vc and vd.
+pub fn value_word(op: u32, m: u32, b: u32, c: u32, d: u32) -> u32
+    ensures { λ r. ⌜ r ≡ Compute.valueWord op m b c d ⌝ }
+{
+    match op {
+        7 => abs_word(m, c),
+        8 => keep(m % 2 == 1, b, d) & c,
+        9 => keep(m % 2 == 1, b, d) | c,
+        10 => d ^ c,
+        11 => !c,
+        _ => exman_word(m, c),
+    }
+}

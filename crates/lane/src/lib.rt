@@ -1,0 +1,60 @@
+// The rules of one lane: the fifteen operations of document 01, both editions, on words.
+//
+// Everything public is total: it has a promise and no `requires`. The promises cite specs/, which renders document 01.
+
+// The registers never stored, enabled, and what a store does to a lane's 24 words.
+pub mod words;
+// LOAD's address, conversions and cursor; LOADI.
+pub mod load;
+// SWAP's order and decision.
+pub mod swap;
+// LUT's input, coefficients, sum and word.
+pub mod lut;
+// CONFIG's value and what it makes of the word in place.
+pub mod config;
+// IADD, ABS, AND, OR, XOR, NOT, LZ, EXEXP and EXMAN.
+pub mod compute;
+// The refusals.
+pub mod refuse;
+// One instruction in one lane.
+pub mod step;
+
+// A run's settings, in the listing's order.
+pub struct Settings {
+    pub edition: u32,
+    pub srcb: u32,
+    pub offset: u32,
+    pub cursor: u32,
+    pub stride0: u32,
+    pub stride1: u32,
+    pub stride2: u32,
+    pub stride3: u32,
+}
+
+// An instruction's six numbers, in the list's order; `md` is mod.
+pub struct Insn {
+    pub op: u32,
+    pub imm: u32,
+    pub vb: u32,
+    pub vc: u32,
+    pub vd: u32,
+    pub md: u32,
+}
+
+// What the lane rules answer: a number of the clerk's, and the lane's words afterwards.
+pub struct Stepped {
+    pub answer: u32,
+    pub words: [u32; 24],
+}
+
+// A piece of a LUT: what a coefficient word's two bytes stand for.
+pub struct Line {
+    pub slope: f32,
+    pub intercept: f32,
+}
+
+// One lane's LUT answer: a number with its register, or nothing stored.
+pub enum LutAnswer {
+    Number(f32, u32),
+    Nothing,
+}

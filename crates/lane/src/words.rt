@@ -1,0 +1,41 @@
+// A lane's words: the slots, the registers never stored, enabled.
+ghost use mathlib.Core.Path.{_≡_};
+ghost use Rattle.lane.specs.Words as Words;
+
+// The slots after the registers.
+pub const LANE_CONFIG: usize = 12;
+
+pub const LANE_FLAG: usize = 13;
+
+pub const USE_FLAG: usize = 14;
+
+pub const MISC: usize = 23;
+
+// One word or the other, by a test.
+pub fn keep(test: bool, new: u32, old: u32) -> u32
+    ensures { λ r. ⌜ r ≡ Words.pick test new old ⌝ }
+{
+    if test { new } else { old }
+}
+
+// Whether a lane is enabled, by its two flags.
+pub fn enabled(use_flag: u32, lane_flag: u32) -> bool
+    ensures { λ r. ⌜ r ≡ Words.enabledBy «use_flag» «lane_flag» ⌝ }
+{
+    (use_flag == 0) | (lane_flag == 1)
+}
+
+// A register that is never stored: 8, 9, 10 and 15.
+pub fn fixed_word(r: u32, lane: u8) -> u32
+    ensures { λ w. ⌜ w ≡ Words.fixedWord r lane ⌝ }
+{
+    if r == 8 {
+        0x3F56_6189
+    } else if r == 9 {
+        0
+    } else if r == 10 {
+        0x3F80_0000
+    } else {
+        2 * (lane as u32)
+    }
+}
