@@ -5,3 +5,6 @@ pub mod Ranks
 pub mod Fields
 pub mod Stores
 pub mod Answers
+pub mod Twelve
+pub mod Depends
+pub mod WellFormed
