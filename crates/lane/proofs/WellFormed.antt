@@ -65,10 +65,10 @@ upd-under f s v t n h k = go (ℕ-discrete t s)
 takes-one : (f : Lane) (s v : ℕ) → Sound f → Fit s v → Sound (upd f s v)
 takes-one f s v h k =
     record {
-    config = upd-under f s v 12 (2 ^ 18) (h .config) (k .config);
-    flag = upd-under f s v 13 2 (h .flag) (k .flag);
-    uses = upd-under f s v 14 2 (h .uses) (k .uses);
-    misc = upd-under f s v 23 (2 ^ 12) (h .misc) (k .misc)
+      config = upd-under f s v 12 (2 ^ 18) (h .config) (k .config);
+      flag = upd-under f s v 13 2 (h .flag) (k .flag);
+      uses = upd-under f s v 14 2 (h .uses) (k .uses);
+      misc = upd-under f s v 23 (2 ^ 12) (h .misc) (k .misc);
     }
 
 pub takes-all : (st : Stores) (f : Lane) → Sound f → AllFit st → Sound (after st f)
@@ -114,10 +114,11 @@ fit-loadWith : (vd m cell place : ℕ) (own : Lane) → AllFit (loadWith vd m ce
 unfolding loadWith
 fit-loadWith vd m cell place own =
     fit-when (loads vd own) _
-    (λ e.
-      ( fit-register vd _ (vd-below vd 8 _ e),
+    (λ e. (
+      fit-register vd _ (vd-below vd 8 _ e),
       fit-when (captures vd (own laneConfig)) _
-      (λ k. (fit-register (vd + 4) place (let h : vd < 4 = vd-below vd 4 _ k in omega arith), tt)) ))
+          (λ k. (fit-register (vd + 4) place (let h : vd < 4 = vd-below vd 4 _ k in omega arith), tt)),
+    ))
 
 fit-load : (srcb a : ℕ) (i : Insn) (L : ℕ) (exchanged : Bool) (even odd : ℕ) (own : Lane) → AllFit (load srcb a i L exchanged even odd own)
 unfolding load
@@ -143,13 +144,13 @@ unfolding swap swapWith plainSwap indexSwap
 fit-swap i L own =
     fit-when _ _
     (λ e.
-      fit-test (bit (own laneConfig) 2) _ _
-      (λ k.
-        fit-append (below 4 (i .vc) _) _ (fit-below 4 (i .vc) _ (omega arith))
-        (fit-append (below 4 (i .vd) _) _ (fit-below 4 (i .vd) _ (omega arith))
-        (fit-register (indexOf (i .vc)) _ (omega arith), (fit-register (indexOf (i .vd)) _ (omega arith), tt))))
-      (λ k.
-        fit-append (below 8 (i .vc) _) _ (fit-below 8 (i .vc) _ (omega arith)) (fit-below 8 (i .vd) _ (omega arith))))
+    fit-test (bit (own laneConfig) 2) _ _
+    (λ k.
+    fit-append (below 4 (i .vc) _) _ (fit-below 4 (i .vc) _ (omega arith))
+    (fit-append (below 4 (i .vd) _) _ (fit-below 4 (i .vd) _ (omega arith))
+    (fit-register (indexOf (i .vc)) _ (omega arith), (fit-register (indexOf (i .vd)) _ (omega arith), tt))))
+    (λ k.
+    fit-append (below 8 (i .vc) _) _ (fit-below 8 (i .vc) _ (omega arith)) (fit-below 8 (i .vd) _ (omega arith))))
 
 combined-lt : (k m old v : ℕ) → old < 2 ^ k → v < 2 ^ k → combined m old v < 2 ^ k
 unfolding combined
@@ -166,46 +167,48 @@ fit-high : (edition : ℕ) (i : Insn) (first : ℕ) (own : Lane) → Sound own �
 unfolding highStore
 fit-high edition i first own h k =
     fit-test (eqb (i .vd) 8) _ _
-    (λ e.
-      ( record {
-      config = λ q. omega arith;
-      flag = λ q. omega arith;
-      uses = λ q. omega arith;
-      misc = λ q. combined-lt 12 (i .md) (own misc) (valueOf (i .md) (i .imm) first % 2 ^ 12) (h .misc) (omega arith)
+    (λ e. (
+      record {
+        config = λ q. omega arith;
+        flag = λ q. omega arith;
+        uses = λ q. omega arith;
+        misc = λ q. combined-lt 12 (i .md) (own misc) (valueOf (i .md) (i .imm) first % 2 ^ 12) (h .misc) (omega arith);
       },
-      tt ))
+      tt,
+    ))
     (λ e.
-      fit-test (ltb (i .vd) 11) [] _ (λ q. tt)
-      (λ q.
-        fit-test (ltb (i .vd) 15) _ _
-        (λ r.
-          let lo : 11 ≤ i .vd = ltb-false (i .vd) 11 q in
-          let hi : i .vd < 15 = ltb-true (i .vd) 15 r in
-          (plain (i .vd - 3) _ (λ z. omega arith) (λ z. omega arith) (λ z. omega arith) (λ z. omega arith), tt))
-        (λ r.
-          ( record {
-          config = λ z. config-lt (i .md) (own laneConfig) (valueOf (i .md) (i .imm) first) (h .config);
-          flag = λ z. omega arith;
-          uses = λ z. omega arith;
-          misc = λ z. omega arith
-          },
-          tt ))))
+    fit-test (ltb (i .vd) 11) [] _ (λ q. tt)
+    (λ q.
+    fit-test (ltb (i .vd) 15) _ _
+    (λ r.
+    let lo : 11 ≤ i .vd = ltb-false (i .vd) 11 q in
+    let hi : i .vd < 15 = ltb-true (i .vd) 15 r in
+    (plain (i .vd - 3) _ (λ z. omega arith) (λ z. omega arith) (λ z. omega arith) (λ z. omega arith), tt))
+    (λ r. (
+      record {
+        config = λ z. config-lt (i .md) (own laneConfig) (valueOf (i .md) (i .imm) first) (h .config);
+        flag = λ z. omega arith;
+        uses = λ z. omega arith;
+        misc = λ z. omega arith;
+      },
+      tt,
+    ))))
 
 fit-config : (edition : ℕ) (i : Insn) (L : ℕ) (head own : Lane) → Sound own → AllFit (config edition i L head own)
 unfolding config configWith configStore
 fit-config edition i L head own h =
     fit-test (passedOver (i .md) (i .imm) L (head useFlag) (head laneFlag)) [] _ (λ e. tt)
     (λ e.
-      fit-test (ltb (i .vd) 4) _ _
-      (λ q.
-        let hi : i .vd < 4 = ltb-true (i .vd) 4 q in
-        (plain (15 + i .vd) _ (λ z. omega arith) (λ z. omega arith) (λ z. omega arith) (λ z. omega arith), tt))
-      (λ q.
-        fit-test (ltb (i .vd) 8) _ _
-        (λ r.
-          let hi : i .vd < 8 = ltb-true (i .vd) 8 r in
-          (plain (19 + (i .vd - 4)) _ (λ z. omega arith) (λ z. omega arith) (λ z. omega arith) (λ z. omega arith), tt))
-        (λ r. fit-high edition i (head 0) own h (ltb-false (i .vd) 8 r))))
+    fit-test (ltb (i .vd) 4) _ _
+    (λ q.
+    let hi : i .vd < 4 = ltb-true (i .vd) 4 q in
+    (plain (15 + i .vd) _ (λ z. omega arith) (λ z. omega arith) (λ z. omega arith) (λ z. omega arith), tt))
+    (λ q.
+    fit-test (ltb (i .vd) 8) _ _
+    (λ r.
+    let hi : i .vd < 8 = ltb-true (i .vd) 8 r in
+    (plain (19 + (i .vd - 4)) _ (λ z. omega arith) (λ z. omega arith) (λ z. omega arith) (λ z. omega arith), tt))
+    (λ r. fit-high edition i (head 0) own h (ltb-false (i .vd) 8 r))))
 
 flag-lt : (sets truth : Bool) (m old : ℕ) → old < 2 → flagAfter sets truth m old < 2
 unfolding flagAfter inverted flagOf
@@ -246,18 +249,18 @@ unfolding lanewise
 fit-lanewise op srcb a i L exchanged even odd own h =
     fit-test (eqb op 1) _ _ (λ e. fit-load srcb a i L exchanged even odd own)
     (λ e.
-      fit-test (eqb op 2) _ _ (λ e. fit-loadi i own)
-      (λ e.
-        fit-test (eqb op 3) _ _ (λ e. fit-lut i own)
-        (λ e.
-          fit-test (eqb op 4) _ _ (λ e. fit-swap i L own)
-          (λ e.
-            fit-test (eqb op 6) _ _ (λ e. fit-iadd i L own h)
-            (λ e.
-              fit-test (eqb op 12) _ _ (λ e. fit-lz i L own h)
-              (λ e.
-                fit-test (eqb op 13) _ _ (λ e. fit-exexp i L own h)
-                (λ e. fit-test (eqb op 15) [] _ (λ e. tt) (λ e. fit-valued op i L own))))))))
+    fit-test (eqb op 2) _ _ (λ e. fit-loadi i own)
+    (λ e.
+    fit-test (eqb op 3) _ _ (λ e. fit-lut i own)
+    (λ e.
+    fit-test (eqb op 4) _ _ (λ e. fit-swap i L own)
+    (λ e.
+    fit-test (eqb op 6) _ _ (λ e. fit-iadd i L own h)
+    (λ e.
+    fit-test (eqb op 12) _ _ (λ e. fit-lz i L own h)
+    (λ e.
+    fit-test (eqb op 13) _ _ (λ e. fit-exexp i L own h)
+    (λ e. fit-test (eqb op 15) [] _ (λ e. tt) (λ e. fit-valued op i L own))))))))
 
 pub fit-stores : (op : ℕ) (s : Settings) (a : ℕ) (i : Insn) (L : ℕ) (head : Lane) (even odd : ℕ) (own : Lane) → Sound own
     → AllFit (storesOf op s a i L head even odd own)
@@ -282,16 +285,20 @@ sound-of own h =
     let abc = and-left (a && b && c) d h in
     let ab = and-left (a && b) c abc in
     record {
-    config = ltb-true (own laneConfig) (2 ^ 18) (and-left a b ab);
-    flag = ltb-true (own laneFlag) 2 (and-right (a && b) c abc);
-    uses = ltb-true (own useFlag) 2 (and-right (a && b && c) d h);
-    misc = ltb-true (own misc) (2 ^ 12) (and-right a b ab)
+      config = ltb-true (own laneConfig) (2 ^ 18) (and-left a b ab);
+      flag = ltb-true (own laneFlag) 2 (and-right (a && b) c abc);
+      uses = ltb-true (own useFlag) 2 (and-right (a && b && c) d h);
+      misc = ltb-true (own misc) (2 ^ 12) (and-right a b ab);
     }
 
 pub well-formed-of : (own : Lane) → Sound own → wellFormed own ≡ true
 well-formed-of own h =
-    simp (lt-ltb (own laneConfig) (2 ^ 18) (h .config), lt-ltb (own misc) (2 ^ 12) (h .misc), lt-ltb (own laneFlag) 2 (h .flag),
-    lt-ltb (own useFlag) 2 (h .uses))
+    simp (
+      lt-ltb (own laneConfig) (2 ^ 18) (h .config),
+      lt-ltb (own misc) (2 ^ 12) (h .misc),
+      lt-ltb (own laneFlag) 2 (h .flag),
+      lt-ltb (own useFlag) 2 (h .uses),
+    )
 
 -- a well formed lane is well formed after any instruction
 pub stays-well-formed : (op : ℕ) (s : Settings) (a : ℕ) (i : Insn) (L : ℕ) (head : Lane) (even odd : ℕ) (own : Lane)

@@ -1,0 +1,2 @@
+-- Laws of the checks, of images and loops over lanes, and what a run does to a column.
+pub mod Scan

@@ -1,0 +1,48 @@
+use borrow.Author.Needs.{needs}
+use mathlib.Core.Path.{refl}
+use Rattle.lane.proofs.Cases.{if-true, if-false, if-le, if-gt, if-eq, if-ne}
+use Rattle.runner.proofs.checks.run_list_answer.Statement.{statement}
+use Rattle.runner.specs.Checks.{lengthsFirst, runListAnswer}
+use Rattle.runner.proofs.checks.run_list_answer.Tie as tie
+
+settings-good-requires : tie.Need-settings-good-requires
+settings-good-requires c κs = search needs
+
+returns : tie.Need-returns
+unfolding runListAnswer lengthsFirst
+returns c = if-true _ _ _ _ (rw (c .before .before .settings-good .ensures) at (c .before .if1 .taken)) (if-ne _ _ _ _ _ (c .if2 .taken) refl)
+
+returns-2 : tie.Need-returns-2
+unfolding runListAnswer lengthsFirst
+returns-2 c = if-true _ _ _ _ (rw (c .before .before .before .settings-good .ensures) at (c .before .before .if1 .taken)) (if-eq _ _ _ _ _ (c .before .if2 .left) (if-gt _ _ _ _ _ (c .if3 .taken) refl))
+
+image-good-requires : tie.Need-image-good-requires
+image-good-requires c κs = search needs
+
+scanned-requires : tie.Need-scanned-requires
+scanned-requires c κs = search needs
+
+returns-3 : tie.Need-returns-3
+unfolding runListAnswer lengthsFirst
+returns-3 c = if-true _ _ _ _ (rw (c .before .before .before .before .before .before .settings-good .ensures) at (c .before .before .before .before .before .if1 .taken)) (if-eq _ _ _ _ _ (c .before .before .before .before .if2 .left) (if-le _ _ _ _ _ (c .before .before .before .if3 .left) (if-true _ _ _ _ (rw (c .before .before .image-good .ensures) at (c .before .if4 .taken)) (c .scanned .ensures))))
+
+returns-4 : tie.Need-returns-4
+unfolding runListAnswer lengthsFirst
+returns-4 c = if-true _ _ _ _ (rw (c .before .before .before .before .before .settings-good .ensures) at (c .before .before .before .before .if1 .taken)) (if-eq _ _ _ _ _ (c .before .before .before .if2 .left) (if-le _ _ _ _ _ (c .before .before .if3 .left) (if-false _ _ _ _ (rw (c .before .image-good .ensures) at (c .if4 .left)) refl)))
+
+returns-5 : tie.Need-returns-5
+unfolding runListAnswer lengthsFirst
+returns-5 c = if-false _ _ _ _ (rw (c .before .settings-good .ensures) at (c .if1 .left)) refl
+
+pub run-list-answer-spec : {M : Type 1} → statement M
+run-list-answer-spec =
+    tie.close
+    (tie.spec
+    settings-good-requires
+    returns
+    returns-2
+    image-good-requires
+    scanned-requires
+    returns-3
+    returns-4
+    returns-5)

@@ -1,0 +1,66 @@
+-- Document 01, "What the replay covers": one instruction over all lanes, the steps through a list, and a run.
+use Prim.Native.Nat.{ℕ, zero, suc, _+_, _*_, _%_}
+use mathlib.Core.List.{List}
+use lib.ListN.{getD}
+use lib.Dec.{eqb}
+use Rattle.lane.specs.declared.Settings.{Settings}
+use Rattle.lane.specs.declared.Insn.{Insn}
+use Rattle.lane.specs.Words.{pick, Lane, after}
+use Rattle.lane.specs.Load.{address, stride, nextCursor, rowOf}
+use Rattle.lane.specs.Rule.{storesOf}
+use Rattle.runner.specs.declared.Found.{Found}
+use Rattle.runner.specs.declared.Outcome.{Outcome}
+use Rattle.runner.specs.Image.{laneIn, ofLanes, headOf}
+use Rattle.runner.specs.Checks.{insnAt, countOf, runAnswer}
+
+-- What a run works on: the image, the Dst ("1,024 rows of 16, row by row"), the cursor.
+pub record Machine : Type 0 where
+  pub image : List ℕ
+  pub dst : List ℕ
+  pub cursor : ℕ
+
+-- The two cells of lane L's row and column, at address a.
+abbrev pub evenCell : List ℕ → ℕ → ℕ → ℕ
+evenCell dst a L = getD dst (rowOf a L * 16 + 2 * (L % 8)) 0
+
+abbrev pub oddCell : List ℕ → ℕ → ℕ → ℕ
+oddCell dst a L = getD dst (rowOf a L * 16 + (2 * (L % 8) + 1)) 0
+
+-- Lane L after one instruction, at address a: the lane rules over the lane, row 0's lane of its column and its two cells.
+unfoldable pub laneAfter : Settings → Insn → ℕ → List ℕ → List ℕ → ℕ → Lane
+laneAfter s i a image dst L =
+    after (storesOf (i .op) s a i L (laneIn image (headOf L)) (evenCell dst a L) (oddCell dst a L) (laneIn image L)) (laneIn image L)
+
+-- The image after one instruction: every lane from the image before.
+unfoldable pub imageAfter : Settings → Insn → ℕ → List ℕ → List ℕ → List ℕ
+imageAfter s i cursor image dst = ofLanes (laneAfter s i (address (i .imm) (s .offset) cursor) image dst)
+
+-- The cursor after one instruction.
+abbrev pub cursorAfter : Settings → Insn → ℕ → ℕ
+cursorAfter s i cursor = nextCursor (i .op) cursor (stride s (i .vb))
+
+-- One instruction. "Dst is only read."
+unfoldable pub stepped : Settings → Insn → Machine → Machine
+stepped s i m =
+    record { image = imageAfter s i (m .cursor) (m .image) (m .dst); dst = m .dst; cursor = cursorAfter s i (m .cursor) }
+
+-- The first n instructions of a list.
+unfoldable pub steps : Settings → List ℕ → ℕ → Machine → Machine
+steps s list zero m = m
+steps s list (suc n) m = stepped s (insnAt list n) (steps s list n m)
+
+-- The whole list, from an image and a Dst, with the given cursor.
+abbrev pub finish : Settings → List ℕ → List ℕ → List ℕ → Machine
+finish s image dst list = steps s list (countOf list) (record { image = image; dst = dst; cursor = s .cursor })
+
+-- "A refusal returns its number, steps 0, the given cursor, and as place .."; "Done returns 0, steps equal to the number of instructions,
+-- place 0 and the final cursor."
+unfoldable pub outcomeOf : Settings → List ℕ → List ℕ → List ℕ → Outcome
+outcomeOf s image dst list =
+    pick (eqb (runAnswer s image dst list .answer) 0)
+    (record { answer = 0; steps = countOf list; place = 0; cursor = finish s image dst list .cursor })
+    (record { answer = runAnswer s image dst list .answer; steps = 0; place = runAnswer s image dst list .place; cursor = s .cursor })
+
+-- The image afterwards; a refusal leaves it untouched.
+unfoldable pub runImage : Settings → List ℕ → List ℕ → List ℕ → List ℕ
+runImage s image dst list = pick (eqb (runAnswer s image dst list .answer) 0) (finish s image dst list .image) image

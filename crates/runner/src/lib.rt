@@ -1,0 +1,41 @@
+// Lists over an image and a Dst, by the promises of crate `lane`: the checks, one instruction over all lanes in place, the steps, the
+// outcome, and the register view.
+
+// The checks of a run, and of a list alone.
+pub mod checks;
+
+use lane::Insn;
+ghost use mathlib.Core.Path.{_≡_};
+ghost use Prim.Native.Nat.{_+_, _*_, _<_};
+ghost use lib.ListN.{length};
+ghost use Rattle.runner.specs.Checks as Checks;
+
+// What a check found: a number of the clerk's, 0 for none, and its place.
+pub struct Found {
+    pub answer: u32,
+    pub place: u32,
+}
+
+// What a run returns.
+pub struct Outcome {
+    pub answer: u32,
+    pub steps: u32,
+    pub place: u32,
+    pub cursor: u32,
+}
+
+// Instruction `k` of a list.
+fn insn_at(list: &[u32], k: usize) -> Insn
+    requires { ⌜ 6 * k + 5 < length (now list) ⌝ }
+    ensures { λ r. ⌜ r ≡ Checks.insnAt (now (list .entry)) k ⌝ }
+{
+    let at = 6 * k;
+    Insn {
+        op: list[at],
+        imm: list[at + 1],
+        vb: list[at + 2],
+        vc: list[at + 3],
+        vd: list[at + 4],
+        md: list[at + 5],
+    }
+}
