@@ -1,2 +1,6 @@
 -- Laws of the checks, of images and loops over lanes, and what a run does to a column.
 pub mod Scan
+pub mod Lanes
+pub mod Filled
+pub mod Made
+pub mod Operands

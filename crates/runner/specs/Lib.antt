@@ -2,3 +2,4 @@
 pub mod Image
 pub mod Checks
 pub mod Run
+pub mod Rows
