@@ -4,3 +4,4 @@ pub mod Lanes
 pub mod Filled
 pub mod Made
 pub mod Operands
+pub mod Loads

@@ -1,11 +1,14 @@
 -- The images that the operations over all lanes leave. Their contracts cite these; the promises of `run` and `step` do not rest on them.
-use Prim.Native.Nat.{ℕ, _%_}
-use mathlib.Core.List.{List, []}
-use lib.ListN.{length}
-use lib.Dec.{eqb}
-use Rattle.lane.specs.declared.Settings.{Settings}
+use Prim.Native.Nat.{ℕ, _+_, _-_, _%_}
+use mathlib.Core.Bool.{Bool, _&&_}
+use mathlib.Core.List.{List, [], _∷_}
+use lib.ListN.{length, getD}
+use lib.Dec.{eqb, ltb}
 use Rattle.lane.specs.declared.Insn.{Insn}
-use Rattle.lane.specs.Words.{pick, Lane, Stores, build, after}
+use Rattle.lane.specs.Words.{pick, bit, Lane, Stores, build, after, constantSlot, laneConfig, template, sequence, misc}
+use Rattle.lane.specs.Load.{loads, captures, loaded, placeOf, isOdd}
+use Rattle.lane.specs.Swap.{acts, swaps, inMask, below}
+use Rattle.lane.specs.Config.{valueOf, miscAfter, laneConfigAfter, constantAfter}
 use Rattle.runner.specs.Image.{laneIn, ofLanes}
 
 -- The image in which each lane L has made the stores `made L`.
@@ -23,3 +26,43 @@ whole image x = pick (eqb (length image) 768) x image
 -- A row: a word for each of the 32 lanes.
 unfoldable pub row : (ℕ → ℕ) → List ℕ
 row f = build 32 f
+
+-- LOAD's two stores apart: the word, and the place.
+unfoldable pub loadedOnly : ℕ → ℕ → ℕ → Lane → Stores
+loadedOnly vd m cell own = pick (loads vd own) ((vd, loaded m (bit (own laneConfig) 0) (own vd) cell) ∷ []) []
+
+unfoldable pub capturedOnly : ℕ → ℕ → Lane → Stores
+capturedOnly vd place own = pick (loads vd own && captures vd (own laneConfig)) ((vd + 4, place) ∷ []) []
+
+-- The place of lane L's cell at address a; `config` is LaneConfig in row 0's lane of its column.
+abbrev pub placeIn : ℕ → ℕ → ℕ → ℕ
+placeIn a config L = placeOf a L (isOdd a (bit config 5))
+
+-- A store under a row of tests, 1 for yes.
+abbrev pub under : ℕ → List ℕ → List ℕ → ℕ → Stores
+under slot tests words L = pick (eqb (getD tests L 0) 1) ((slot, getD words L 0) ∷ []) []
+
+-- A swap's store to register r, with bit 2 set or clear.
+unfoldable pub swapStore : Bool → Bool → ℕ → ℕ → Stores
+swapStore swapping index r w = pick swapping (pick index (below 4 r w) (below 8 r w)) []
+
+-- Whether a lane swaps.
+abbrev pub swapTest : ℕ → Insn → ℕ → ℕ → ℕ → Lane → Bool
+swapTest mask i L c d own = acts (i .vd) own && swaps (eqb (i .md) 0) (inMask mask L) (bit (own laneConfig) 8) c d
+
+-- CONFIG's slot, for any vd but 9 and 10, and its word, where the slot holds `old`.
+unfoldable pub configSlot : ℕ → ℕ
+configSlot vd =
+    pick (ltb vd 4) (template vd) (pick (ltb vd 8) (sequence (vd - 4)) (pick (eqb vd 8) misc (pick (ltb vd 15) (constantSlot vd) laneConfig)))
+
+unfoldable pub configWord : ℕ → Insn → ℕ → ℕ → ℕ
+configWord edition i first old =
+    pick (ltb (i .vd) 4) first
+    (pick (ltb (i .vd) 8) (valueOf (i .md) (i .imm) first)
+    (pick (eqb (i .vd) 8) (miscAfter (i .md) old (valueOf (i .md) (i .imm) first))
+    (pick (ltb (i .vd) 15) (constantAfter edition (i .md) (i .vd) first)
+    (laneConfigAfter (i .md) old (valueOf (i .md) (i .imm) first)))))
+
+-- LOAD's image where image, Dst and address are of their sizes.
+unfoldable pub loaded768 : List ℕ → List ℕ → ℕ → List ℕ → List ℕ
+loaded768 image dst a x = pick (eqb (length image) 768 && (eqb (length dst) 16384 && ltb a 1024)) x image
