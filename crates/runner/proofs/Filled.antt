@@ -16,11 +16,11 @@ pub record Filled (f : ℕ → ℕ) (n : ℕ) (words : List ℕ) : Type 0 where
   pub long : length words ≡ 32
   pub made : (k : ℕ) → k < n → getD words k 0 ≡ f k
 
+pub none-below : (k : ℕ) → k < 0 → ⊥
+none-below k l = omega arith
+
 pub fill-start : (f : ℕ → ℕ) (words : List ℕ) → length words ≡ 32 → Filled f 0 words
-fill-start f words e = record { within = omega arith; long = e; made = λ k l. absurd (none k l) }
-  where
-    none : (k : ℕ) → k < 0 → ⊥
-    none k l = omega arith
+fill-start f words e = record { within = omega arith; long = e; made = λ k l. absurd (none-below k l) }
 
 pub fill-more : (f : ℕ → ℕ) (n : ℕ) (words : List ℕ) (v : ℕ) → n < 32 → Filled f n words → v ≡ f n → Filled f (n + 1) (set words n v)
 fill-more f n words v l h e =

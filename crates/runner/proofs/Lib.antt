@@ -5,3 +5,4 @@ pub mod Filled
 pub mod Made
 pub mod Operands
 pub mod Loads
+pub mod Swaps

@@ -1,13 +1,13 @@
 -- The images that the operations over all lanes leave. Their contracts cite these; the promises of `run` and `step` do not rest on them.
 use Prim.Native.Nat.{ℕ, _+_, _-_, _%_}
-use mathlib.Core.Bool.{Bool, _&&_}
-use mathlib.Core.List.{List, [], _∷_}
+use mathlib.Core.Bool.{Bool, Bool·beq, _&&_}
+use mathlib.Core.List.{List, [], _∷_, _++_}
 use lib.ListN.{length, getD}
 use lib.Dec.{eqb, ltb}
 use Rattle.lane.specs.declared.Insn.{Insn}
 use Rattle.lane.specs.Words.{pick, bit, Lane, Stores, build, after, constantSlot, laneConfig, template, sequence, misc}
 use Rattle.lane.specs.Load.{loads, captures, loaded, placeOf, isOdd}
-use Rattle.lane.specs.Swap.{acts, swaps, inMask, below}
+use Rattle.lane.specs.Swap.{acts, swaps, inMask, indexOf, plainSwap, indexSwap}
 use Rattle.lane.specs.Config.{valueOf, miscAfter, laneConfigAfter, constantAfter}
 use Rattle.runner.specs.Image.{laneIn, ofLanes}
 
@@ -42,9 +42,26 @@ placeIn a config L = placeOf a L (isOdd a (bit config 5))
 abbrev pub under : ℕ → List ℕ → List ℕ → ℕ → Stores
 under slot tests words L = pick (eqb (getD tests L 0) 1) ((slot, getD words L 0) ∷ []) []
 
--- A swap's store to register r, with bit 2 set or clear.
-unfoldable pub swapStore : Bool → Bool → ℕ → ℕ → Stores
-swapStore swapping index r w = pick swapping (pick index (below 4 r w) (below 8 r w)) []
+-- Two truth values are the same.
+abbrev pub sameTruth : Bool → Bool → Bool
+sameTruth a b = Bool·beq a b
+
+-- A swap's store to register r, by rows: `tests` for every lane that swaps, `plain` for those with bit 2 clear.
+unfoldable pub swapStored : ℕ → List ℕ → List ℕ → List ℕ → ℕ → Stores
+swapStored r tests plain words L =
+    pick (ltb r 4) (under r tests words L) (pick (ltb r 8) (under r plain words L) [])
+
+-- The exchange of two registers in a lane, where a test holds.
+unfoldable pub exchanged : ℕ → ℕ → Bool → Lane → Stores
+exchanged ic id t own = pick t ((ic, own id) ∷ []) [] ++ pick t ((id, own ic) ∷ []) []
+
+-- SWAP's stores in a lane that swaps or not.
+unfoldable pub swapped : Insn → Bool → ℕ → ℕ → Lane → Stores
+swapped i swapping c d own =
+    pick swapping
+    (pick (bit (own laneConfig) 2) (indexSwap (i .vc) (i .vd) c d (own (indexOf (i .vc))) (own (indexOf (i .vd))))
+    (plainSwap (i .vc) (i .vd) c d))
+    []
 
 -- Whether a lane swaps.
 abbrev pub swapTest : ℕ → Insn → ℕ → ℕ → ℕ → Lane → Bool

@@ -71,6 +71,18 @@ fn put_when(image: &mut [u32], n: usize, slot: usize, test: bool, word: u32)
     image[at] = keep(test, word, image[at]);
 }
 
+// A row of words stored to a slot, in the lanes whose test is 1.
+fn store_rows(image: &mut [u32], slot: usize, tests: &[u32; 32], words: &[u32; 32])
+    requires { ⌜ (length (now image) ≡ 768) × (slot < 24) ⌝ }
+    ensures { λ _. ⌜ now (image .exit) ≡ Rows.storing (now (image .entry)) (λ L. Rows.under slot (now (tests .entry)) (now (words .entry)) L) ⌝ }
+{
+    let mut n: usize = 0;
+    while n < 32 {
+        put_when(image, n, slot, tests[n] == 1, words[n]);
+        n += 1;
+    }
+}
+
 // The row of a slot.
 fn slot_row(image: &[u32], slot: usize) -> [u32; 32]
     requires { ⌜ (length (now image) ≡ 768) × (slot < 24) ⌝ }
