@@ -6,3 +6,4 @@ pub mod Made
 pub mod Operands
 pub mod Loads
 pub mod Swaps
+pub mod LutConfig

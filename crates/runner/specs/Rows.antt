@@ -1,14 +1,15 @@
 -- The images that the operations over all lanes leave. Their contracts cite these; the promises of `run` and `step` do not rest on them.
 use Prim.Native.Nat.{ℕ, _+_, _-_, _%_}
-use mathlib.Core.Bool.{Bool, Bool·beq, _&&_}
+use mathlib.Core.Bool.{Bool, not, Bool·beq, _&&_}
 use mathlib.Core.List.{List, [], _∷_, _++_}
 use lib.ListN.{length, getD}
 use lib.Dec.{eqb, ltb}
 use Rattle.lane.specs.declared.Insn.{Insn}
-use Rattle.lane.specs.Words.{pick, bit, Lane, Stores, build, after, constantSlot, laneConfig, template, sequence, misc}
+use Rattle.lane.specs.Words.{pick, bit, Lane, Stores, build, after, constantSlot, laneConfig, laneFlag, useFlag, template, sequence, misc}
 use Rattle.lane.specs.Load.{loads, captures, loaded, placeOf, isOdd}
 use Rattle.lane.specs.Swap.{acts, swaps, inMask, indexOf, plainSwap, indexSwap}
-use Rattle.lane.specs.Config.{valueOf, miscAfter, laneConfigAfter, constantAfter}
+use Rattle.lane.specs.Lut.{lutWord, resultOf}
+use Rattle.lane.specs.Config.{passedOver, valueOf, miscAfter, laneConfigAfter, constantAfter}
 use Rattle.runner.specs.Image.{laneIn, ofLanes}
 
 -- The image in which each lane L has made the stores `made L`.
@@ -72,13 +73,30 @@ unfoldable pub configSlot : ℕ → ℕ
 configSlot vd =
     pick (ltb vd 4) (template vd) (pick (ltb vd 8) (sequence (vd - 4)) (pick (eqb vd 8) misc (pick (ltb vd 15) (constantSlot vd) laneConfig)))
 
+unfoldable pub configHighWord : ℕ → Insn → ℕ → ℕ → ℕ
+configHighWord edition i first old =
+    pick (eqb (i .vd) 8) (miscAfter (i .md) old (valueOf (i .md) (i .imm) first))
+    (pick (ltb (i .vd) 15) (constantAfter edition (i .md) (i .vd) first)
+    (laneConfigAfter (i .md) old (valueOf (i .md) (i .imm) first)))
+
 unfoldable pub configWord : ℕ → Insn → ℕ → ℕ → ℕ
 configWord edition i first old =
-    pick (ltb (i .vd) 4) first
-    (pick (ltb (i .vd) 8) (valueOf (i .md) (i .imm) first)
-    (pick (eqb (i .vd) 8) (miscAfter (i .md) old (valueOf (i .md) (i .imm) first))
-    (pick (ltb (i .vd) 15) (constantAfter edition (i .md) (i .vd) first)
-    (laneConfigAfter (i .md) old (valueOf (i .md) (i .imm) first)))))
+    pick (ltb (i .vd) 4) first (pick (ltb (i .vd) 8) (valueOf (i .md) (i .imm) first) (configHighWord edition i first old))
+
+-- CONFIG in a lane, for any vd but 9 and 10.
+unfoldable pub configured : ℕ → Insn → ℕ → Lane → Lane → Stores
+configured edition i L head own =
+    pick (not (passedOver (i .md) (i .imm) L (head useFlag) (head laneFlag)))
+    ((configSlot (i .vd), configWord edition i (head 0) (own (configSlot (i .vd)))) ∷ [])
+    []
+
+-- The word of a lane's LUT result.
+abbrev pub lutWordOf : ℕ → Lane → ℕ
+lutWordOf m own = lutWord m (own 3) (resultOf (own 0) (own 1) (own 2) (own 3))
+
+-- A store to the register that register 7 names, where a test is 1.
+unfoldable pub scattered : ℕ → ℕ → Lane → Stores
+scattered test word own = pick (eqb test 1 && ltb (own 7 % 16) 8) ((own 7 % 16, word) ∷ []) []
 
 -- LOAD's image where image, Dst and address are of their sizes.
 unfoldable pub loaded768 : List ℕ → List ℕ → ℕ → List ℕ → List ℕ
