@@ -95,8 +95,8 @@ unfolding storing
 storing-then image a b =
     same-lanes (λ L. after (b L) (laneIn (storing image a) L)) (λ L. after (a L ++ b L) (laneIn image L))
     (λ L s hL hs.
-      after-agree (b L) (laneIn (storing image a) L) (after (a L) (laneIn image L)) s (lane-storing image a L s hL hs)
-      ∙ ap (λ (f : Lane). f s) (after-append (a L) (b L) (laneIn image L)))
+    after-agree (b L) (laneIn (storing image a) L) (after (a L) (laneIn image L)) s (lane-storing image a L s hL hs)
+    ∙ ap (λ (f : Lane). f s) (after-append (a L) (b L) (laneIn image L)))
 
 -- ---- stores in one lane
 
@@ -179,8 +179,8 @@ pub record Turned (made : ℕ → Lane → Stores) (image : List ℕ) (n : ℕ) 
 pub turn-start : (made : ℕ → Lane → Stores) (image : List ℕ) → length image ≡ 768 → Turned made image 0 image
 turn-start made image e =
     record {
-    within = omega arith;
-    stored = sym (storing-none image (λ L. pick (ltb L 0) (made L (laneIn image L)) []) e (λ L h. pick-false (ltb L 0) _ [] (le-ltb L 0 (omega arith))))
+      within = omega arith;
+      stored = sym (storing-none image (λ L. pick (ltb L 0) (made L (laneIn image L)) []) e (λ L h. pick-false (ltb L 0) _ [] (le-ltb L 0 (omega arith))));
     }
 
 pub turned-length : (made : ℕ → Lane → Stores) (image : List ℕ) (n : ℕ) (now : List ℕ) → Turned made image n now → length now ≡ 768
@@ -193,9 +193,9 @@ unfolding after
 turn-lane made image n now e l h =
     equal-lanes now image n n (turned-length made image n now h) e
     (λ s k.
-      ap (λ (x : List ℕ). laneIn x n s) (h .stored)
-      ∙ lane-storing image (λ L. pick (ltb L n) (made L (laneIn image L)) []) n s l k
-      ∙ ap (λ (x : Stores). after x (laneIn image n) s) (pick-false (ltb n n) (made n (laneIn image n)) [] (le-ltb n n (omega arith))))
+    ap (λ (x : List ℕ). laneIn x n s) (h .stored)
+    ∙ lane-storing image (λ L. pick (ltb L n) (made L (laneIn image L)) []) n s l k
+    ∙ ap (λ (x : Stores). after x (laneIn image n) s) (pick-false (ltb n n) (made n (laneIn image n)) [] (le-ltb n n (omega arith))))
 
 pub turn-more : (made : ℕ → Lane → Stores) (image : List ℕ) (n : ℕ) (now next : List ℕ) → length image ≡ 768 → n < 32
     → Turned made image n now
@@ -204,12 +204,12 @@ pub turn-more : (made : ℕ → Lane → Stores) (image : List ℕ) (n : ℕ) (n
 unfolding storingIn
 turn-more made image n now next e l h k =
     record {
-    within = omega arith;
-    stored = k
-    ∙ ap (λ (f : Lane). storing now (λ M. pick (eqb M n) (made n f) [])) (turn-lane made image n now e l h)
-    ∙ ap (λ (x : List ℕ). storing x (λ M. pick (eqb M n) (made n (laneIn image n)) [])) (h .stored)
-    ∙ storing-then image (λ L. pick (ltb L n) (made L (laneIn image L)) []) (λ M. pick (eqb M n) (made n (laneIn image n)) [])
-    ∙ storing-same image _ (λ L. pick (ltb L (n + 1)) (made L (laneIn image L)) []) (λ L hL. joins L (ℕ-discrete L n))
+      within = omega arith;
+      stored = k
+          ∙ ap (λ (f : Lane). storing now (λ M. pick (eqb M n) (made n f) [])) (turn-lane made image n now e l h)
+          ∙ ap (λ (x : List ℕ). storing x (λ M. pick (eqb M n) (made n (laneIn image n)) [])) (h .stored)
+          ∙ storing-then image (λ L. pick (ltb L n) (made L (laneIn image L)) []) (λ M. pick (eqb M n) (made n (laneIn image n)) [])
+          ∙ storing-same image _ (λ L. pick (ltb L (n + 1)) (made L (laneIn image L)) []) (λ L hL. joins L (ℕ-discrete L n));
     }
   where
     below : (L : ℕ) → L < n → pick (ltb L n) (made L (laneIn image L)) [] ++ pick (eqb L n) (made n (laneIn image n)) [] ≡ pick (ltb L (n + 1)) (made L (laneIn image L)) []

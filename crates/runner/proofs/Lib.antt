@@ -7,3 +7,5 @@ pub mod Operands
 pub mod Loads
 pub mod Swaps
 pub mod LutConfig
+pub mod Steps
+pub mod Views

@@ -63,7 +63,8 @@ module _ (i : Insn) (own : Lane) (t w : ℕ) (p : t ≡ flagOf (acts (i .vd) own
 
   pub lut-none : (i .md / 8 % 2 ≡ 1 → ⊥) → 8 ≤ i .vd → lut i own ≡ []
   lut-none h k =
-      direct h ∙ pick-false (acts (i .vd) own && ltb (i .vd) 8) _ [] (ap (λ (b : Bool). acts (i .vd) own && b) (le-ltb (i .vd) 8 k) ∙ and-false _)
+      direct h ∙ pick-false (acts (i .vd) own && ltb (i .vd) 8) ((i .vd, lutWordOf (i .md) own) ∷ []) []
+      (ap (λ (b : Bool). acts (i .vd) own && b) (le-ltb (i .vd) 8 k) ∙ and-false (acts (i .vd) own))
 
 -- ---- CONFIG
 
@@ -73,9 +74,9 @@ unfolding configSlot configWord configHighWord configStore highStore pick
 config-store edition i first own n9 n10 =
     split (i .vd) 4
     (λ a.
-      split (i .vd) 8
-      (λ b. high a b (ℕ-discrete (i .vd) 8))
-      (λ b. simp (le-ltb (i .vd) 4 a, lt-ltb (i .vd) 8 b)))
+    split (i .vd) 8
+    (λ b. high a b (ℕ-discrete (i .vd) 8))
+    (λ b. simp (le-ltb (i .vd) 4 a, lt-ltb (i .vd) 8 b)))
     (λ a. simp (lt-ltb (i .vd) 4 a))
   where
     high : 4 ≤ i .vd → 8 ≤ i .vd → Dec (i .vd ≡ 8)
@@ -131,10 +132,10 @@ unfolding configSlot pick
 slot-in vd =
     split vd 4
     (λ a.
-      split vd 8
-      (λ b.
-        at a b (ℕ-discrete vd 8))
-      (λ b. simp (le-ltb vd 4 a, lt-ltb vd 8 b) (omega arith)))
+    split vd 8
+    (λ b.
+    at a b (ℕ-discrete vd 8))
+    (λ b. simp (le-ltb vd 4 a, lt-ltb vd 8 b) (omega arith)))
     (λ a. simp (lt-ltb vd 4 a) (omega arith))
   where
     at : 4 ≤ vd → 8 ≤ vd → Dec (vd ≡ 8) → configSlot vd < 24

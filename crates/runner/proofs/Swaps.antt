@@ -122,8 +122,8 @@ module _ (image : List ℕ) (i : Insn) (tests plain indexed c d : List ℕ)
       ∙ storing-then image (λ L. swapStored (i .vc) tests plain d L) (λ L. swapStored (i .vd) tests plain c L)
       ∙ storing-same image _ _
       (λ L l.
-        ap (λ (z : Stores). z ++ swapStored (i .vd) tests plain c L) (by-rows (i .vc) d L l)
-        ∙ ap (λ (z : Stores). stores (T L) (ix L) (i .vc) (getD d L 0) ++ z) (by-rows (i .vd) c L l))
+      ap (λ (z : Stores). z ++ swapStored (i .vd) tests plain c L) (by-rows (i .vc) d L l)
+      ∙ ap (λ (z : Stores). stores (T L) (ix L) (i .vc) (getD d L 0) ++ z) (by-rows (i .vd) c L l))
 
   made : (y z : List ℕ)
       → y ≡ storing image (λ L. stores (T L) (ix L) (i .vc) (getD d L 0) ++ stores (T L) (ix L) (i .vd) (getD c L 0))
@@ -134,14 +134,14 @@ module _ (image : List ℕ) (i : Insn) (tests plain indexed c d : List ℕ)
       k
       ∙ storing-same y _ (λ L. exchanged (indexOf (i .vc)) (indexOf (i .vd)) (T L && ix L) (laneIn image L))
       (λ L l.
-        exchanged-kept (i .vc) (i .vd) (getD c L 0) (getD d L 0) (laneIn image L) (laneIn y L) (T L) (ix L)
-        (λ s a b. ap (λ (w : List ℕ). laneIn w L s) h ∙ lane-storing image _ L s l (omega arith)))
+      exchanged-kept (i .vc) (i .vd) (getD c L 0) (getD d L 0) (laneIn image L) (laneIn y L) (T L) (ix L)
+      (λ s a b. ap (λ (w : List ℕ). laneIn w L s) h ∙ lane-storing image _ L s l (omega arith)))
       ∙ ap (λ (w : List ℕ). storing w (λ L. exchanged (indexOf (i .vc)) (indexOf (i .vd)) (T L && ix L) (laneIn image L))) h
       ∙ storing-then image _ _
       ∙ storing-same image _ _
       (λ L l.
-        swap-lane-stores (T L) (ix L) (i .vc) (i .vd) (getD c L 0) (getD d L 0) (laneIn image L (indexOf (i .vc)))
-        (laneIn image L (indexOf (i .vd))))
+      swap-lane-stores (T L) (ix L) (i .vc) (i .vd) (getD c L 0) (getD d L 0) (laneIn image L (indexOf (i .vc)))
+      (laneIn image L (indexOf (i .vd))))
 
   -- with the exchange
   pub swap-exchanged : (x y z : List ℕ)
@@ -185,9 +185,9 @@ exchange-rows image x y ic id indexed a b p q h k =
     k ∙ ap (λ (z : List ℕ). storing z (λ L. under id indexed a L)) h ∙ storing-then image (λ L. under ic indexed b L) (λ L. under id indexed a L)
     ∙ storing-same image _ _
     (λ L l.
-      ap (λ (w : ℕ). pick (eqb (getD indexed L 0) 1) ((ic, w) ∷ []) [] ++ under id indexed a L) (operand b _ q L l)
-      ∙ ap (λ (w : ℕ). pick (eqb (getD indexed L 0) 1) ((ic, laneIn image L id) ∷ []) [] ++ pick (eqb (getD indexed L 0) 1) ((id, w) ∷ []) [])
-      (operand a _ p L l))
+    ap (λ (w : ℕ). pick (eqb (getD indexed L 0) 1) ((ic, w) ∷ []) [] ++ under id indexed a L) (operand b _ q L l)
+    ∙ ap (λ (w : ℕ). pick (eqb (getD indexed L 0) 1) ((ic, laneIn image L id) ∷ []) [] ++ pick (eqb (getD indexed L 0) 1) ((id, w) ∷ []) [])
+    (operand a _ p L l))
 
 -- which row of tests goes with a register
 pub stored-low : (r : ℕ) (tests plain words : List ℕ) (L : ℕ) → r < 4 → under r tests words L ≡ swapStored r tests plain words L

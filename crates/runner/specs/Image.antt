@@ -1,6 +1,7 @@
 -- Document 01, "The image, 768 words": where a word lies, a lane of an image, and an image of 32 lanes.
-use Prim.Native.Nat.{ℕ, zero, suc, _+_, _*_, _/_, _%_}
-use mathlib.Core.Bool.{Bool, true, _&&_}
+use Prim.Native.Nat.{ℕ, zero, suc, _+_, _*_, _/_, _%_, _<_, _≤_}
+use mathlib.Core.Path.{_≡_}
+use mathlib.Core.Bool.{Bool, true, false, _&&_}
 use mathlib.Core.List.{List, []}
 use lib.ListN.{getD, length, take, drop}
 use lib.Dec.{eqb}
@@ -42,3 +43,11 @@ viewStart r = wordAt (slotOf r) 0
 
 unfoldable pub view : List ℕ → ℕ → List ℕ
 view image r = take (viewLength image r) (drop (viewStart r) image)
+
+-- Where a register's words start: a stored one's at its slot, any other's at 768. The view's code is handed this.
+pub record Starts (r x : ℕ) : Type 0 where
+  pub whole : x % 32 ≡ 0
+  pub within : x ≤ 768
+  pub stored : x < 768 → isStored r ≡ true
+  pub missing : 768 ≤ x → isStored r ≡ false
+  pub place : x < 768 → x ≡ viewStart r

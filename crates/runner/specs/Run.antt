@@ -1,7 +1,8 @@
 -- Document 01, "What the replay covers": one instruction over all lanes, the steps through a list, and a run.
 use Prim.Native.Nat.{ℕ, zero, suc, _+_, _*_, _%_}
+use mathlib.Core.Bool.{_&&_}
 use mathlib.Core.List.{List}
-use lib.ListN.{getD}
+use lib.ListN.{getD, length}
 use lib.Dec.{eqb}
 use Rattle.lane.specs.declared.Settings.{Settings}
 use Rattle.lane.specs.declared.Insn.{Insn}
@@ -31,9 +32,18 @@ unfoldable pub laneAfter : Settings → Insn → ℕ → List ℕ → List ℕ �
 laneAfter s i a image dst L =
     after (storesOf (i .op) s a i L (laneIn image (headOf L)) (evenCell dst a L) (oddCell dst a L) (laneIn image L)) (laneIn image L)
 
--- The image after one instruction: every lane from the image before.
+-- The image after one instruction: every lane from the image before, at address a,
+unfoldable pub imageAt : Settings → Insn → ℕ → List ℕ → List ℕ → List ℕ
+imageAt s i a image dst = ofLanes (laneAfter s i a image dst)
+
+-- which the cursor gives.
 unfoldable pub imageAfter : Settings → Insn → ℕ → List ℕ → List ℕ → List ℕ
-imageAfter s i cursor image dst = ofLanes (laneAfter s i (address (i .imm) (s .offset) cursor) image dst)
+imageAfter s i cursor image dst = imageAt s i (address (i .imm) (s .offset) cursor) image dst
+
+-- The same for an image and a Dst of any length: of another length than theirs, they are left alone.
+unfoldable pub stepImage : Settings → Insn → ℕ → List ℕ → List ℕ → List ℕ
+stepImage s i cursor image dst =
+    pick (eqb (length image) 768 && eqb (length dst) 16384) (imageAfter s i cursor image dst) image
 
 -- The cursor after one instruction.
 abbrev pub cursorAfter : Settings → Insn → ℕ → ℕ

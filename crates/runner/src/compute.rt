@@ -1,10 +1,15 @@
 // IADD, ABS, AND, OR, XOR, NOT, LZ, EXEXP and EXMAN over all lanes. vd is read in place: it is stored, or nothing is done.
-use crate::{put_when, source};
-use lane::compute::{
-    exexp_flag, exexp_word, iadd_flag, iadd_word, lz_flag, lz_word, value_word,
-};
-use lane::words::enabled;
+use crate::put_when;
+use crate::source;
 use lane::Insn;
+use lane::compute::exexp_flag;
+use lane::compute::exexp_word;
+use lane::compute::iadd_flag;
+use lane::compute::iadd_word;
+use lane::compute::lz_flag;
+use lane::compute::lz_word;
+use lane::compute::value_word;
+use lane::words::enabled;
 ghost use mathlib.Core.Path.{_≡_};
 ghost use Prim.Native.Nat.{ℕ, _<_};
 ghost use lib.ListN.{length, getD};

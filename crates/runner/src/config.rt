@@ -1,8 +1,13 @@
 // CONFIG over all lanes: row 0's flags and register 0 are copied first, then the lanes that are not passed over store one word each.
-use crate::{head_row, store_rows};
-use lane::config::{constant_after, lane_config_after, misc_after, passed_over, value_of};
-use lane::words::keep;
+use crate::head_row;
+use crate::store_rows;
 use lane::Insn;
+use lane::config::constant_after;
+use lane::config::lane_config_after;
+use lane::config::misc_after;
+use lane::config::passed_over;
+use lane::config::value_of;
+use lane::words::keep;
 ghost use mathlib.Core.Path.{_≡_};
 ghost use mathlib.Core.Bool.{not};
 ghost use Prim.Native.Nat.{ℕ, _<_, _%_};

@@ -21,8 +21,9 @@ pub mod run;
 // A stored register's lanes, as a part of the image.
 pub mod view;
 
-use lane::words::{fixed_word, keep};
 use lane::Insn;
+use lane::words::fixed_word;
+use lane::words::keep;
 ghost use mathlib.Core.Path.{_≡_};
 ghost use mathlib.Core.List.{[], _∷_};
 ghost use Prim.Native.Nat.{_+_, _*_, _<_, _%_};

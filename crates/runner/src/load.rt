@@ -1,8 +1,15 @@
 // LOAD and LOADI over all lanes. LOAD gathers the cells first, then stores them; the captured places are a loop of their own.
-use crate::{head_row, put_when};
-use lane::load::{captures, immediate, is_odd, loaded, loads, place, resolved};
-use lane::words::enabled;
+use crate::head_row;
+use crate::put_when;
 use lane::Insn;
+use lane::load::captures;
+use lane::load::immediate;
+use lane::load::is_odd;
+use lane::load::loaded;
+use lane::load::loads;
+use lane::load::place;
+use lane::load::resolved;
+use lane::words::enabled;
 ghost use mathlib.Core.Path.{_≡_};
 ghost use Prim.Native.Nat.{ℕ, _<_, _%_};
 ghost use lib.ListN.{length, getD};
@@ -81,7 +88,8 @@ fn capture_at(image: &mut [u32], n: usize, vd: usize, a: u16, head: u32)
     ensures { λ _. ⌜ now (image .exit) ≡ Rows.storingIn (now (image .entry)) n (Rows.capturedOnly vd (Rows.placeIn a head n) (laneIn (now (image .entry)) n)) ⌝ }
 {
     let config = image[384 + n];
-    let test = loads(vd as u32, config, image[448 + n], image[416 + n]) & captures(vd as u32, config);
+    let test = loads(vd as u32, config, image[448 + n], image[416 + n])
+        & captures(vd as u32, config);
     let at = place(a, n as u8, is_odd(a, head / 32 % 2 == 1));
     put_when(image, n, vd + 4, test, at);
 }

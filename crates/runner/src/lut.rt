@@ -1,9 +1,11 @@
 // LUT over all lanes: first which lanes act and what word each would store, then the stores, to vd or to the register that register 7 names.
-use crate::{put_when, store_rows};
-use lane::lut::{lut_result, lut_word};
+use crate::put_when;
+use crate::store_rows;
+use lane::Insn;
+use lane::lut::lut_result;
+use lane::lut::lut_word;
 use lane::swap::acts;
 use lane::words::keep;
-use lane::Insn;
 ghost use mathlib.Core.Path.{_≡_};
 ghost use Prim.Native.Nat.{ℕ, _<_};
 ghost use lib.ListN.{length, getD};
@@ -19,7 +21,11 @@ fn lut_test(image: &[u32], n: usize, vd: u32) -> u32
     requires { ⌜ (length (now image) ≡ 768) × (n < 32) ⌝ }
     ensures { λ r. ⌜ r ≡ flagOf (Swap.acts vd (laneIn (now (image .entry)) n)) ⌝ }
 {
-    keep(acts(vd, image[384 + n], image[448 + n], image[416 + n]), 1, 0)
+    keep(
+        acts(vd, image[384 + n], image[448 + n], image[416 + n]),
+        1,
+        0,
+    )
 }
 
 fn lut_tests(image: &[u32], vd: u32) -> [u32; 32]
@@ -41,7 +47,11 @@ fn lut_word_at(image: &[u32], n: usize, m: u32) -> u32
     ensures { λ r. ⌜ r ≡ Rows.lutWordOf m (laneIn (now (image .entry)) n) ⌝ }
 {
     let r3 = image[96 + n];
-    lut_word(m, r3, lut_result(image[n], image[32 + n], image[64 + n], r3))
+    lut_word(
+        m,
+        r3,
+        lut_result(image[n], image[32 + n], image[64 + n], r3),
+    )
 }
 
 fn lut_words(image: &[u32], m: u32) -> [u32; 32]

@@ -1,9 +1,14 @@
 // SWAP over all lanes: first which lanes swap, from the rows of vc and vd; then the stores to vc and vd; then, where a lane has bit 2 set,
 // the exchange of the registers 4 + vc mod 4 and 4 + vd mod 4.
-use crate::{slot_row, source, store_rows};
-use lane::swap::{acts, in_mask, mask_of, swaps};
-use lane::words::keep;
+use crate::slot_row;
+use crate::source;
+use crate::store_rows;
 use lane::Insn;
+use lane::swap::acts;
+use lane::swap::in_mask;
+use lane::swap::mask_of;
+use lane::swap::swaps;
+use lane::words::keep;
 ghost use mathlib.Core.Path.{_≡_};
 ghost use mathlib.Core.Bool.{not, false, _&&_};
 ghost use Prim.Native.Nat.{ℕ, _<_};
@@ -21,7 +26,13 @@ fn swap_test(image: &[u32], n: usize, mask: u32, i: Insn, c: u32, d: u32) -> u32
 {
     let config = image[384 + n];
     let acting = acts(i.vd, config, image[448 + n], image[416 + n]);
-    let swapping = swaps(i.md == 0, in_mask(mask, n as u8), config / 256 % 2 == 1, c, d);
+    let swapping = swaps(
+        i.md == 0,
+        in_mask(mask, n as u8),
+        config / 256 % 2 == 1,
+        c,
+        d,
+    );
     keep(acting & swapping, 1, 0)
 }
 
@@ -46,7 +57,11 @@ fn index_tests(image: &[u32], tests: &[u32; 32], index: bool) -> [u32; 32]
     let mut chosen = [0u32; 32];
     let mut n: usize = 0;
     while n < 32 {
-        chosen[n] = keep((tests[n] == 1) & (index == (image[384 + n] / 4 % 2 == 1)), 1, 0);
+        chosen[n] = keep(
+            (tests[n] == 1) & (index == (image[384 + n] / 4 % 2 == 1)),
+            1,
+            0,
+        );
         n += 1;
     }
     chosen
@@ -99,7 +114,12 @@ fn swap_stores(image: &mut [u32], i: Insn, tests: &[u32; 32], c: &[u32; 32], d: 
     swap_store(image, i.vc, tests, &plain, d);
     swap_store(image, i.vd, tests, &plain, c);
     if any(&indexed) {
-        exchange(image, (4 + i.vc % 4) as usize, (4 + i.vd % 4) as usize, &indexed);
+        exchange(
+            image,
+            (4 + i.vc % 4) as usize,
+            (4 + i.vd % 4) as usize,
+            &indexed,
+        );
     }
 }
 

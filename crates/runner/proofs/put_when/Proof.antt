@@ -1,44 +1,32 @@
-use Rattle.runner.proofs.Lanes.{put-when}
 use borrow.Author.Needs.{needs}
+use Rattle.runner.proofs.Lanes.{put-when}
 use Rattle.runner.proofs.put_when.Statement.{statement}
 use Rattle.runner.proofs.put_when.Tie as tie
-use Rattle.runner.proofs.put_when.Reads as reads
-use Rattle.runner.proofs.put_when.Lts as lts
-use Rattle.lane.proofs.words.keep.Reads as keep-reads
 
--- src/lib.rt:70:14
 mul-at : tie.Need-mul-at
 mul-at c = search needs
 
--- src/lib.rt:70:14
 add-at : tie.Need-add-at
 add-at c = search needs
 
--- src/lib.rt:71:34
 mul-keep : tie.Need-mul-keep
 mul-keep c = search needs
 
--- src/lib.rt:71:34
 slice-read-keep : tie.Need-slice-read-keep
 slice-read-keep c = search needs
 
--- src/lib.rt:71:17
 keep-requires : tie.Need-keep-requires
 keep-requires c κs = search needs
 
--- src/lib.rt:71:5
 mul-image : tie.Need-mul-image
 mul-image c = search needs
 
--- src/lib.rt:71:5
 slice-write-image : tie.Need-slice-write-image
 slice-write-image c = search needs
 
--- src/lib.rt:66:1
 same-length : tie.Need-same-length
 same-length c = search needs
 
--- src/lib.rt:66:1
 returns : tie.Need-returns
 returns c = rw (c .keep .ensures) (put-when _ _ _ _ _ (c .before .before .before .pre .0) (c .before .before .before .pre .1 .0) (c .before .before .before .pre .1 .1))
 

@@ -1,15 +1,12 @@
-use Prim.Native.Nat.{_-_, _*_}
-use Rattle.runner.proofs.Filled.{Filled, fill-start, fill-more, fill-end}
-use mathlib.Core.Path.{refl, ap, _≡_}
-use lib.ListN.{getD}
-use Prim.Native.Nat.{ℕ, _+_}
-use native.Mathlib.Omega.{arith}
+use Prim.Native.Nat.{_-_, _*_, ℕ, _+_}
 use borrow.Author.Needs.{needs}
-use Rattle.runner.specs.Image.{laneIn}
+use lib.ListN.{getD}
+use mathlib.Core.Path.{refl, ap, _≡_}
+use native.Mathlib.Omega.{arith}
+use Rattle.runner.proofs.Filled.{Filled, fill-start, fill-more, fill-end}
 use Rattle.runner.proofs.slot_row.Statement.{statement}
+use Rattle.runner.specs.Image.{laneIn}
 use Rattle.runner.proofs.slot_row.Tie as tie
-use Rattle.runner.proofs.slot_row.Reads as reads
-use Rattle.runner.proofs.slot_row.Lts as lts
 
 abbrev Inv-loop : tie.InvT-loop
 Inv-loop image slot at words₀ n₀ words n = (at ≡ 32 * slot) × Filled (λ (L : ℕ). laneIn image L slot) n words
@@ -17,52 +14,41 @@ Inv-loop image slot at words₀ n₀ words n = (at ≡ 32 * slot) × Filled (λ 
 abbrev μ-loop : tie.MeasureT-loop
 μ-loop image slot at words₀ n₀ words n = 32 - n
 
--- src/lib.rt:79:14
 mul-at : tie.Need-mul-at Inv-loop μ-loop
 unfolding laneIn
 mul-at c = omega arith
 
--- src/lib.rt:82:5
 loop-holds : tie.Need-loop-holds Inv-loop μ-loop
 unfolding laneIn
 loop-holds c = (refl, fill-start _ _ (search needs))
 
--- src/lib.rt:83:26
 add-words : tie.Need-add-words Inv-loop μ-loop
 add-words c = omega arith
 
--- src/lib.rt:83:20
 mul-words : tie.Need-mul-words Inv-loop μ-loop
 mul-words c = search needs
 
--- src/lib.rt:83:20
 shared-slice-read-words : tie.Need-shared-slice-read-words Inv-loop μ-loop
 unfolding laneIn
 shared-slice-read-words c = omega arith
 
--- src/lib.rt:83:9
 mul-words-2 : tie.Need-mul-words-2 Inv-loop μ-loop
 mul-words-2 c = search needs
 
--- src/lib.rt:83:9
 array-write-words : tie.Need-array-write-words Inv-loop μ-loop
 unfolding laneIn
 array-write-words c = search needs
 
--- src/lib.rt:84:9
 add-n : tie.Need-add-n Inv-loop μ-loop
 add-n c = omega arith
 
--- src/lib.rt:82:5
 loop-less : tie.Need-loop-less Inv-loop μ-loop
 loop-less c = omega arith
 
--- src/lib.rt:82:5
 loop-again : tie.Need-loop-again Inv-loop μ-loop
 unfolding laneIn
 loop-again c = (c .before .before .loop .inv .0, fill-more _ _ _ _ (c .before .loop-test .taken) (c .before .before .loop .inv .1) (ap (λ (k : ℕ). getD (c .before .before .before .args .image .now) (k + c .before .before .loop .n) 0) (c .before .before .loop .inv .0)))
 
--- src/lib.rt:75:1
 returns : tie.Need-returns Inv-loop μ-loop
 unfolding laneIn
 returns c = fill-end _ _ _ (c .loop-test .left) (c .before .loop .inv .1)

@@ -1,52 +1,38 @@
-use Rattle.runner.specs.Image.{laneIn}
+use borrow.Author.Needs.{needs}
+use mathlib.Core.Path.{sym, _∙_}
 use Rattle.runner.proofs.Filled.{row-same}
 use Rattle.runner.proofs.Operands.{reg-low, reg-fixed, reg-constant, reg-last}
-use mathlib.Core.Path.{sym, _∙_}
-use borrow.Author.Needs.{needs}
 use Rattle.runner.proofs.source.Statement.{statement}
+use Rattle.runner.specs.Image.{laneIn}
 use Rattle.runner.proofs.source.Tie as tie
-use Rattle.runner.proofs.source.Reads as reads
-use Rattle.runner.proofs.source.Lts as lts
-use Rattle.runner.proofs.fixed_row.Reads as fixed-row-reads
-use Rattle.runner.proofs.slot_row.Reads as slot-row-reads
 
--- src/lib.rt:123:9
 slot-row-requires : tie.Need-slot-row-requires
 slot-row-requires c κs = search needs
 
--- src/lib.rt:123:9
 returns : tie.Need-returns
 returns c = c .slot-row .ensures ∙ row-same _ _ (λ L l. sym (reg-low L (laneIn (c .before .before .before .args .image .now) L) (c .before .before .before .args .r) (c .before .if1 .taken)))
 
--- src/lib.rt:126:9
 fixed-row-requires : tie.Need-fixed-row-requires
 fixed-row-requires c κs = search needs
 
--- src/lib.rt:126:9
 returns-2 : tie.Need-returns-2
 returns-2 c = c .fixed-row .ensures ∙ row-same _ _ (λ L l. sym (reg-fixed L (laneIn (c .before .before .before .before .args .image .now) L) (c .before .before .before .before .args .r) (c .before .before .if1 .left) (c .before .if2 .taken)))
 
--- src/lib.rt:129:33
 sub-slot-row : tie.Need-sub-slot-row
 sub-slot-row c = search needs
 
--- src/lib.rt:129:32
 cast-slot-row : tie.Need-cast-slot-row
 cast-slot-row c = search needs
 
--- src/lib.rt:129:9
 slot-row-requires-2 : tie.Need-slot-row-requires-2
 slot-row-requires-2 c κs = search needs
 
--- src/lib.rt:129:9
 returns-3 : tie.Need-returns-3
 returns-3 c = c .slot-row2 .ensures ∙ row-same _ _ (λ L l. sym (reg-constant L (laneIn (c .before .before .before .before .before .args .image .now) L) (c .before .before .before .before .before .args .r) (c .before .before .if2 .left) (c .before .if3 .taken)))
 
--- src/lib.rt:131:5
 fixed-row-requires-2 : tie.Need-fixed-row-requires-2
 fixed-row-requires-2 c κs = search needs
 
--- src/lib.rt:118:1
 returns-4 : tie.Need-returns-4
 returns-4 c = c .fixed-row2 .ensures ∙ row-same _ _ (λ L l. sym (reg-last L (laneIn (c .before .before .before .before .before .args .image .now) L) (c .before .before .before .before .before .args .r) (c .before .if3 .left)))
 

@@ -1,36 +1,26 @@
-use Rattle.runner.specs.Image.{laneIn}
+use borrow.Author.Needs.{needs}
 use Rattle.runner.proofs.Filled.{operand}
 use Rattle.runner.proofs.Made.{whole-same, whole-none, whole-not}
 use Rattle.runner.proofs.Operands.{exexp-lane, no-exexp}
-use borrow.Author.Needs.{needs}
 use Rattle.runner.proofs.compute.exexp.Statement.{statement}
+use Rattle.runner.specs.Image.{laneIn}
 use Rattle.runner.proofs.compute.exexp.Tie as tie
-use Rattle.runner.proofs.compute.exexp.Reads as reads
-use Rattle.runner.proofs.compute.exexp.Lts as lts
-use Rattle.runner.proofs.compute.exexp_rows.Reads as exexp-rows-reads
-use Rattle.runner.proofs.source.Reads as source-reads
 
--- src/compute.rt:180:21
 source-requires : tie.Need-source-requires
 source-requires c κs = search needs
 
--- src/compute.rt:181:13
 exexp-rows-requires : tie.Need-exexp-rows-requires
 exexp-rows-requires c κs = search needs
 
--- src/compute.rt:175:1
 same-length : tie.Need-same-length
 same-length c = search needs
 
--- src/compute.rt:175:1
 returns : tie.Need-returns
-returns c = whole-same _ _ _ _ (c .before .before .before .before .before .before .before .before .before .if1 .taken) (c .before .before .exexp-rows .ensures) (λ L l. exexp-lane (c .before .before .before .before .before .before .before .before .before .before .before .args .i) L (laneIn (c .before .before .before .before .before .before .before .before .before .before .before .args .image .now) L) _  (operand _ _ (c .before .before .before .before .before .source .ensures) L l))
+returns c = whole-same _ _ _ _ (c .before .before .before .before .before .before .before .before .before .if1 .taken) (c .before .before .exexp-rows .ensures) (λ L l. exexp-lane (c .before .before .before .before .before .before .before .before .before .before .before .args .i) L (laneIn (c .before .before .before .before .before .before .before .before .before .before .before .args .image .now) L) _ (operand _ _ (c .before .before .before .before .before .source .ensures) L l))
 
--- src/compute.rt:175:1
 returns-2 : tie.Need-returns-2
 returns-2 c = whole-none _ _ (c .before .before .if1 .taken) (λ L l. no-exexp (c .before .before .before .before .args .i) L (laneIn (c .before .before .before .before .args .image .now) L) (c .if2 .left))
 
--- src/compute.rt:175:1
 returns-3 : tie.Need-returns-3
 returns-3 c = whole-not _ _ (c .if1 .left)
 

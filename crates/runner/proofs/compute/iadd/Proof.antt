@@ -1,36 +1,26 @@
-use Rattle.runner.specs.Image.{laneIn}
+use borrow.Author.Needs.{needs}
 use Rattle.runner.proofs.Filled.{operand}
 use Rattle.runner.proofs.Made.{whole-same, whole-none, whole-not}
 use Rattle.runner.proofs.Operands.{iadd-lane, no-iadd}
-use borrow.Author.Needs.{needs}
 use Rattle.runner.proofs.compute.iadd.Statement.{statement}
+use Rattle.runner.specs.Image.{laneIn}
 use Rattle.runner.proofs.compute.iadd.Tie as tie
-use Rattle.runner.proofs.compute.iadd.Reads as reads
-use Rattle.runner.proofs.compute.iadd.Lts as lts
-use Rattle.runner.proofs.compute.iadd_rows.Reads as iadd-rows-reads
-use Rattle.runner.proofs.source.Reads as source-reads
 
--- src/compute.rt:109:21
 source-requires : tie.Need-source-requires
 source-requires c κs = search needs
 
--- src/compute.rt:110:13
 iadd-rows-requires : tie.Need-iadd-rows-requires
 iadd-rows-requires c κs = search needs
 
--- src/compute.rt:104:1
 same-length : tie.Need-same-length
 same-length c = search needs
 
--- src/compute.rt:104:1
 returns : tie.Need-returns
 returns c = whole-same _ _ _ _ (c .before .before .before .before .before .before .before .before .before .if1 .taken) (c .before .before .iadd-rows .ensures) (λ L l. iadd-lane (c .before .before .before .before .before .before .before .before .before .before .before .args .i) L (laneIn (c .before .before .before .before .before .before .before .before .before .before .before .args .image .now) L) _ (c .before .before .before .before .before .before .before .if2 .taken) (operand _ _ (c .before .before .before .before .before .source .ensures) L l))
 
--- src/compute.rt:104:1
 returns-2 : tie.Need-returns-2
 returns-2 c = whole-none _ _ (c .before .before .if1 .taken) (λ L l. no-iadd (c .before .before .before .before .args .i) L (laneIn (c .before .before .before .before .args .image .now) L) (c .if2 .left))
 
--- src/compute.rt:104:1
 returns-3 : tie.Need-returns-3
 returns-3 c = whole-not _ _ (c .if1 .left)
 

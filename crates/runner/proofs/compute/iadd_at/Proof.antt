@@ -1,85 +1,61 @@
-use Rattle.runner.proofs.Made.{word-and-flag-in}
-use Rattle.lane.specs.Compute.{iaddWith}
-use Rattle.runner.specs.Image.{laneIn}
 use borrow.Author.Needs.{needs}
+use Rattle.lane.specs.Compute.{iaddWith}
+use Rattle.runner.proofs.Made.{word-and-flag-in}
 use Rattle.runner.proofs.compute.iadd_at.Statement.{statement}
+use Rattle.runner.specs.Image.{laneIn}
 use Rattle.runner.proofs.compute.iadd_at.Tie as tie
-use Rattle.runner.proofs.compute.iadd_at.Reads as reads
-use Rattle.runner.proofs.compute.iadd_at.Lts as lts
-use Rattle.lane.proofs.compute.iadd_flag.Reads as iadd-flag-reads
-use Rattle.lane.proofs.compute.iadd_word.Reads as iadd-word-reads
-use Rattle.lane.proofs.words.enabled.Reads as enabled-reads
-use Rattle.runner.proofs.put_when.Reads as put-when-reads
 
--- src/compute.rt:71:14
 cast-vd : tie.Need-cast-vd
 cast-vd c = search needs
 
--- src/compute.rt:72:21
 add-old : tie.Need-add-old
 add-old c = search needs
 
--- src/compute.rt:72:15
 mul-old : tie.Need-mul-old
 mul-old c = search needs
 
--- src/compute.rt:72:15
 slice-read-old : tie.Need-slice-read-old
 slice-read-old c = search needs
 
--- src/compute.rt:73:30
 add-enabled : tie.Need-add-enabled
 add-enabled c = search needs
 
--- src/compute.rt:73:24
 mul-enabled : tie.Need-mul-enabled
 mul-enabled c = search needs
 
--- src/compute.rt:73:24
 slice-read-enabled : tie.Need-slice-read-enabled
 slice-read-enabled c = search needs
 
--- src/compute.rt:73:9
 enabled-requires : tie.Need-enabled-requires
 enabled-requires c κs = search needs
 
--- src/compute.rt:74:48
 mul-iadd-word : tie.Need-mul-iadd-word
 mul-iadd-word c = search needs
 
--- src/compute.rt:74:48
 add-iadd-word : tie.Need-add-iadd-word
 add-iadd-word c = search needs
 
--- src/compute.rt:74:42
 mul-iadd-word-2 : tie.Need-mul-iadd-word-2
 mul-iadd-word-2 c = search needs
 
--- src/compute.rt:74:42
 slice-read-iadd-word : tie.Need-slice-read-iadd-word
 slice-read-iadd-word c = search needs
 
--- src/compute.rt:74:9
 iadd-word-requires : tie.Need-iadd-word-requires
 iadd-word-requires c κs = search needs
 
--- src/compute.rt:75:5
 put-when-requires : tie.Need-put-when-requires
 put-when-requires c κs = search needs
 
--- src/compute.rt:76:34
 iadd-flag-requires : tie.Need-iadd-flag-requires
 iadd-flag-requires c κs = search needs
 
--- src/compute.rt:76:5
 put-when-requires-2 : tie.Need-put-when-requires-2
 put-when-requires-2 c κs = search needs
 
--- src/compute.rt:67:1
 same-length : tie.Need-same-length
 same-length c = search needs
 
--- src/compute.rt:67:1
 returns : tie.Need-returns
 unfolding iaddWith laneIn
 returns c = word-and-flag-in (c .before .before .before .before .before .before .before .before .before .before .before .before .before .before .before .before .args .image .now) (c .before .before .before .before .before .before .before .put-when .last .0) (c .before .before .put-when2 .last .0) (c .before .before .before .before .before .before .before .before .before .before .before .before .before .before .before .before .args .n) (c .before .before .before .before .before .before .before .before .before .before .before .before .before .before .before .before .args .i .vd) _ _ _ _ (c .before .before .before .before .before .before .before .before .before .before .before .before .before .before .before .before .pre .1 .1) (c .before .before .before .before .before .before .before .before .before .before .before .enabled .ensures) (rw (c .before .before .before .before .before .before .before .before .before .iadd-word .ensures) at (c .before .before .before .before .before .before .before .put-when .ensures)) (rw (c .before .before .before .iadd-flag .ensures, c .before .before .before .before .before .before .before .before .before .iadd-word .ensures) at (c .before .before .put-when2 .ensures))

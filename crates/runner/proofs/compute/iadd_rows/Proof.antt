@@ -1,18 +1,13 @@
-use Rattle.runner.proofs.Lanes.{Turned}
-use Prim.Native.Nat.{_-_}
+use Prim.Native.Nat.{_-_, ℕ}
+use borrow.Author.Needs.{needs}
+use lib.ListN.{getD}
+use mathlib.Core.Path.{sym, _∙_}
+use native.Mathlib.Omega.{arith}
 use Rattle.lane.specs.Compute.{iaddWith}
 use Rattle.lane.specs.Words.{Lane}
-use Rattle.runner.proofs.Lanes.{turn-start, turned-length, turn-more, turn-end}
-use mathlib.Core.Path.{sym, _∙_}
-use lib.ListN.{getD}
-use Prim.Native.Nat.{ℕ}
-use native.Mathlib.Omega.{arith}
-use borrow.Author.Needs.{needs}
+use Rattle.runner.proofs.Lanes.{Turned, turn-start, turned-length, turn-more, turn-end}
 use Rattle.runner.proofs.compute.iadd_rows.Statement.{statement}
 use Rattle.runner.proofs.compute.iadd_rows.Tie as tie
-use Rattle.runner.proofs.compute.iadd_rows.Reads as reads
-use Rattle.runner.proofs.compute.iadd_rows.Lts as lts
-use Rattle.runner.proofs.compute.iadd_at.Reads as iadd-at-reads
 
 abbrev Inv-loop : tie.InvT-loop
 Inv-loop image₀ i c n₀ image n = Turned (λ (L : ℕ) (own : Lane). iaddWith i (getD c L 0) (own (i .vd)) own) image₀ n image
@@ -20,39 +15,30 @@ Inv-loop image₀ i c n₀ image n = Turned (λ (L : ℕ) (own : Lane). iaddWith
 abbrev μ-loop : tie.MeasureT-loop
 μ-loop image₀ i c n₀ image n = 32 - n
 
--- src/compute.rt:84:5
 loop-holds : tie.Need-loop-holds Inv-loop μ-loop
 loop-holds c = turn-start _ _ (c .before .pre .0)
 
--- src/compute.rt:85:30
 mul-iadd-at : tie.Need-mul-iadd-at Inv-loop μ-loop
 mul-iadd-at c = search needs
 
--- src/compute.rt:85:30
 element-copy-out-iadd-at : tie.Need-element-copy-out-iadd-at Inv-loop μ-loop
 element-copy-out-iadd-at c = search needs
 
--- src/compute.rt:85:9
 iadd-at-requires : tie.Need-iadd-at-requires Inv-loop μ-loop
 iadd-at-requires c κs = (turned-length _ _ _ _ (c .before .before .before .loop .inv), (c .before .before .loop-test .taken, c .before .before .before .before .before .pre .1))
 
--- src/compute.rt:86:9
 add-n : tie.Need-add-n Inv-loop μ-loop
 add-n c = omega arith
 
--- src/compute.rt:84:5
 loop-less : tie.Need-loop-less Inv-loop μ-loop
 loop-less c = omega arith
 
--- src/compute.rt:84:5
 loop-again : tie.Need-loop-again Inv-loop μ-loop
 loop-again c = turn-more _ _ _ _ _ (c .before .before .before .before .before .before .before .before .pre .0) (c .before .before .before .before .before .loop-test .taken) (c .before .before .before .before .before .before .loop .inv) (c .before .before .iadd-at .ensures)
 
--- src/compute.rt:79:1
 same-length : tie.Need-same-length Inv-loop μ-loop
 same-length c = turned-length _ _ _ _ (c .before .loop .inv) ∙ sym (c .before .before .before .pre .0)
 
--- src/compute.rt:79:1
 returns : tie.Need-returns Inv-loop μ-loop
 returns c = turn-end _ _ _ _ (c .loop-test .left) (c .before .loop .inv)
 

@@ -1,69 +1,49 @@
-use Rattle.runner.proofs.Made.{word-and-flag-in}
-use Rattle.lane.specs.Compute.{lzWith}
-use Rattle.runner.specs.Image.{laneIn}
 use borrow.Author.Needs.{needs}
+use Rattle.lane.specs.Compute.{lzWith}
+use Rattle.runner.proofs.Made.{word-and-flag-in}
 use Rattle.runner.proofs.compute.lz_at.Statement.{statement}
+use Rattle.runner.specs.Image.{laneIn}
 use Rattle.runner.proofs.compute.lz_at.Tie as tie
-use Rattle.runner.proofs.compute.lz_at.Reads as reads
-use Rattle.runner.proofs.compute.lz_at.Lts as lts
-use Rattle.lane.proofs.compute.lz_flag.Reads as lz-flag-reads
-use Rattle.lane.proofs.compute.lz_word.Reads as lz-word-reads
-use Rattle.lane.proofs.words.enabled.Reads as enabled-reads
-use Rattle.runner.proofs.put_when.Reads as put-when-reads
 
--- src/compute.rt:107:14
 cast-vd : tie.Need-cast-vd
 cast-vd c = search needs
 
--- src/compute.rt:108:21
 add-old : tie.Need-add-old
 add-old c = search needs
 
--- src/compute.rt:108:15
 mul-old : tie.Need-mul-old
 mul-old c = search needs
 
--- src/compute.rt:108:15
 slice-read-old : tie.Need-slice-read-old
 slice-read-old c = search needs
 
--- src/compute.rt:109:30
 add-enabled : tie.Need-add-enabled
 add-enabled c = search needs
 
--- src/compute.rt:109:24
 mul-enabled : tie.Need-mul-enabled
 mul-enabled c = search needs
 
--- src/compute.rt:109:24
 slice-read-enabled : tie.Need-slice-read-enabled
 slice-read-enabled c = search needs
 
--- src/compute.rt:109:9
 enabled-requires : tie.Need-enabled-requires
 enabled-requires c κs = search needs
 
--- src/compute.rt:110:34
 lz-word-requires : tie.Need-lz-word-requires
 lz-word-requires c κs = search needs
 
--- src/compute.rt:110:5
 put-when-requires : tie.Need-put-when-requires
 put-when-requires c κs = search needs
 
--- src/compute.rt:111:34
 lz-flag-requires : tie.Need-lz-flag-requires
 lz-flag-requires c κs = search needs
 
--- src/compute.rt:111:5
 put-when-requires-2 : tie.Need-put-when-requires-2
 put-when-requires-2 c κs = search needs
 
--- src/compute.rt:103:1
 same-length : tie.Need-same-length
 same-length c = search needs
 
--- src/compute.rt:103:1
 returns : tie.Need-returns
 unfolding lzWith laneIn
 returns c = word-and-flag-in (c .before .before .before .before .before .before .before .before .before .before .before .before .before .before .before .args .image .now) (c .before .before .before .before .before .before .before .put-when .last .0) (c .before .before .put-when2 .last .0) (c .before .before .before .before .before .before .before .before .before .before .before .before .before .before .before .args .n) (c .before .before .before .before .before .before .before .before .before .before .before .before .before .before .before .args .i .vd) _ _ _ _ (c .before .before .before .before .before .before .before .before .before .before .before .before .before .before .before .pre .1 .1) (c .before .before .before .before .before .before .before .before .before .before .enabled .ensures) (rw (c .before .before .before .before .before .before .before .before .lz-word .ensures) at (c .before .before .before .before .before .before .before .put-when .ensures)) (rw (c .before .before .before .lz-flag .ensures) at (c .before .before .put-when2 .ensures))

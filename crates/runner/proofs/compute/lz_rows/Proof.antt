@@ -1,18 +1,13 @@
-use Rattle.runner.proofs.Lanes.{Turned}
-use Prim.Native.Nat.{_-_}
+use Prim.Native.Nat.{_-_, ℕ}
+use borrow.Author.Needs.{needs}
+use lib.ListN.{getD}
+use mathlib.Core.Path.{sym, _∙_}
+use native.Mathlib.Omega.{arith}
 use Rattle.lane.specs.Compute.{lzWith}
 use Rattle.lane.specs.Words.{Lane}
-use Rattle.runner.proofs.Lanes.{turn-start, turned-length, turn-more, turn-end}
-use mathlib.Core.Path.{sym, _∙_}
-use lib.ListN.{getD}
-use Prim.Native.Nat.{ℕ}
-use native.Mathlib.Omega.{arith}
-use borrow.Author.Needs.{needs}
+use Rattle.runner.proofs.Lanes.{Turned, turn-start, turned-length, turn-more, turn-end}
 use Rattle.runner.proofs.compute.lz_rows.Statement.{statement}
 use Rattle.runner.proofs.compute.lz_rows.Tie as tie
-use Rattle.runner.proofs.compute.lz_rows.Reads as reads
-use Rattle.runner.proofs.compute.lz_rows.Lts as lts
-use Rattle.runner.proofs.compute.lz_at.Reads as lz-at-reads
 
 abbrev Inv-loop : tie.InvT-loop
 Inv-loop image₀ i c n₀ image n = Turned (λ (L : ℕ) (own : Lane). lzWith i (getD c L 0) own) image₀ n image
@@ -20,39 +15,30 @@ Inv-loop image₀ i c n₀ image n = Turned (λ (L : ℕ) (own : Lane). lzWith i
 abbrev μ-loop : tie.MeasureT-loop
 μ-loop image₀ i c n₀ image n = 32 - n
 
--- src/compute.rt:119:5
 loop-holds : tie.Need-loop-holds Inv-loop μ-loop
 loop-holds c = turn-start _ _ (c .before .pre .0)
 
--- src/compute.rt:120:28
 mul-lz-at : tie.Need-mul-lz-at Inv-loop μ-loop
 mul-lz-at c = search needs
 
--- src/compute.rt:120:28
 element-copy-out-lz-at : tie.Need-element-copy-out-lz-at Inv-loop μ-loop
 element-copy-out-lz-at c = search needs
 
--- src/compute.rt:120:9
 lz-at-requires : tie.Need-lz-at-requires Inv-loop μ-loop
 lz-at-requires c κs = (turned-length _ _ _ _ (c .before .before .before .loop .inv), (c .before .before .loop-test .taken, c .before .before .before .before .before .pre .1))
 
--- src/compute.rt:121:9
 add-n : tie.Need-add-n Inv-loop μ-loop
 add-n c = omega arith
 
--- src/compute.rt:119:5
 loop-less : tie.Need-loop-less Inv-loop μ-loop
 loop-less c = omega arith
 
--- src/compute.rt:119:5
 loop-again : tie.Need-loop-again Inv-loop μ-loop
 loop-again c = turn-more _ _ _ _ _ (c .before .before .before .before .before .before .before .before .pre .0) (c .before .before .before .before .before .loop-test .taken) (c .before .before .before .before .before .before .loop .inv) (c .before .before .lz-at .ensures)
 
--- src/compute.rt:114:1
 same-length : tie.Need-same-length Inv-loop μ-loop
 same-length c = turned-length _ _ _ _ (c .before .loop .inv) ∙ sym (c .before .before .before .pre .0)
 
--- src/compute.rt:114:1
 returns : tie.Need-returns Inv-loop μ-loop
 returns c = turn-end _ _ _ _ (c .loop-test .left) (c .before .loop .inv)
 

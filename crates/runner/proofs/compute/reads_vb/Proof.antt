@@ -1,10 +1,7 @@
 use Rattle.lane.proofs.Cases.{has-one}
 use Rattle.runner.proofs.compute.reads_vb.Statement.{statement}
 use Rattle.runner.proofs.compute.reads_vb.Tie as tie
-use Rattle.runner.proofs.compute.reads_vb.Reads as reads
-use Rattle.runner.proofs.compute.reads_vb.Lts as lts
 
--- src/compute.rt:56:1
 returns : tie.Need-returns
 returns c = simp has-one
 

@@ -1,59 +1,43 @@
+use borrow.Author.Needs.{needs}
+use mathlib.Core.Path.{refl, sym, _∙_}
 use Rattle.lane.specs.Words.{reg}
-use Rattle.runner.specs.Image.{laneIn}
 use Rattle.runner.proofs.Filled.{operand}
 use Rattle.runner.proofs.Made.{whole-same, whole-none, whole-not}
 use Rattle.runner.proofs.Operands.{valued-lane, vb-unread, no-valued}
-use mathlib.Core.Path.{refl, sym, _∙_}
-use borrow.Author.Needs.{needs}
 use Rattle.runner.proofs.compute.valued.Statement.{statement}
+use Rattle.runner.specs.Image.{laneIn}
 use Rattle.runner.proofs.compute.valued.Tie as tie
-use Rattle.runner.proofs.compute.valued.Reads as reads
-use Rattle.runner.proofs.compute.valued.Lts as lts
-use Rattle.runner.proofs.compute.reads_vb.Reads as reads-vb-reads
-use Rattle.runner.proofs.compute.valued_by_op.Reads as valued-by-op-reads
-use Rattle.runner.proofs.source.Reads as source-reads
 
--- src/compute.rt:68:21
 source-requires : tie.Need-source-requires
 source-requires c κs = search needs
 
--- src/compute.rt:69:16
 reads-vb-requires : tie.Need-reads-vb-requires
 reads-vb-requires c κs = search needs
 
--- src/compute.rt:70:25
 source-requires-2 : tie.Need-source-requires-2
 source-requires-2 c κs = search needs
 
--- src/compute.rt:71:17
 valued-by-op-requires : tie.Need-valued-by-op-requires
 valued-by-op-requires c κs = search needs
 
--- src/compute.rt:73:17
 valued-by-op-requires-2 : tie.Need-valued-by-op-requires-2
 valued-by-op-requires-2 c κs = search needs
 
--- src/compute.rt:63:1
 same-length : tie.Need-same-length
 same-length c = search needs
 
--- src/compute.rt:63:1
 returns : tie.Need-returns
 returns c = whole-same _ _ _ _ (c .before .before .before .before .before .before .before .before .before .before .before .before .before .before .if1 .taken) (c .before .before .valued-by-op .ensures) (λ L l. valued-lane (c .before .before .before .before .before .before .before .before .before .before .before .before .before .before .before .before .args .op) (c .before .before .before .before .before .before .before .before .before .before .before .before .before .before .before .before .args .i) L (laneIn (c .before .before .before .before .before .before .before .before .before .before .before .before .before .before .before .before .args .image .now) L) _ _ (c .before .before .before .before .before .before .before .before .before .before .before .before .if2 .taken) (operand _ _ (c .before .before .before .before .before .before .source2 .ensures) L l) (operand _ _ (c .before .before .before .before .before .before .before .before .before .before .source .ensures) L l))
 
--- src/compute.rt:63:1
 same-length-2 : tie.Need-same-length-2
 same-length-2 c = search needs
 
--- src/compute.rt:63:1
 returns-2 : tie.Need-returns-2
 returns-2 c = whole-same _ _ _ _ (c .before .before .before .before .before .before .before .before .before .before .before .before .if1 .taken) (c .before .before .valued-by-op2 .ensures) (λ L l. vb-unread (c .before .before .before .before .before .before .before .before .before .before .before .before .before .before .args .op) (c .before .before .before .before .before .before .before .before .before .before .before .before .before .before .args .i) _ (reg L (laneIn (c .before .before .before .before .before .before .before .before .before .before .before .before .before .before .args .image .now) L) (c .before .before .before .before .before .before .before .before .before .before .before .before .before .before .args .i .vb)) _ _ (laneIn (c .before .before .before .before .before .before .before .before .before .before .before .before .before .before .args .image .now) L) (sym (c .before .before .before .before .before .before .before .reads-vb .ensures) ∙ c .before .before .before .before .before .before .if3 .left) ∙ valued-lane (c .before .before .before .before .before .before .before .before .before .before .before .before .before .before .args .op) (c .before .before .before .before .before .before .before .before .before .before .before .before .before .before .args .i) L (laneIn (c .before .before .before .before .before .before .before .before .before .before .before .before .before .before .args .image .now) L) _ _ (c .before .before .before .before .before .before .before .before .before .before .if2 .taken) refl (operand _ _ (c .before .before .before .before .before .before .before .before .source .ensures) L l))
 
--- src/compute.rt:63:1
 returns-3 : tie.Need-returns-3
 returns-3 c = whole-none _ _ (c .before .before .if1 .taken) (λ L l. no-valued (c .before .before .before .before .args .op) (c .before .before .before .before .args .i) L (laneIn (c .before .before .before .before .args .image .now) L) (c .if2 .left))
 
--- src/compute.rt:63:1
 returns-4 : tie.Need-returns-4
 returns-4 c = whole-not _ _ (c .if1 .left)
 

@@ -1,79 +1,58 @@
 use borrow.Author.Needs.{needs}
 use Rattle.runner.proofs.compute.valued_by_op.Statement.{statement}
 use Rattle.runner.proofs.compute.valued_by_op.Tie as tie
-use Rattle.runner.proofs.compute.valued_by_op.Reads as reads
-use Rattle.runner.proofs.compute.valued_by_op.Lts as lts
-use Rattle.runner.proofs.compute.valued_rows.Reads as valued-rows-reads
 
--- src/compute.rt:46:14
 valued-rows-requires : tie.Need-valued-rows-requires
 valued-rows-requires c κs = search needs
 
--- src/compute.rt:47:14
 valued-rows-requires-2 : tie.Need-valued-rows-requires-2
 valued-rows-requires-2 c κs = search needs
 
--- src/compute.rt:48:14
 valued-rows-requires-3 : tie.Need-valued-rows-requires-3
 valued-rows-requires-3 c κs = search needs
 
--- src/compute.rt:49:15
 valued-rows-requires-4 : tie.Need-valued-rows-requires-4
 valued-rows-requires-4 c κs = search needs
 
--- src/compute.rt:50:15
 valued-rows-requires-5 : tie.Need-valued-rows-requires-5
 valued-rows-requires-5 c κs = search needs
 
--- src/compute.rt:51:14
 valued-rows-requires-6 : tie.Need-valued-rows-requires-6
 valued-rows-requires-6 c κs = search needs
 
--- src/compute.rt:41:1
 same-length : tie.Need-same-length
 same-length c = search needs
 
--- src/compute.rt:41:1
 returns : tie.Need-returns
 returns c = rw (c .before .before .before .before .match .keys1) (c .before .before .valued-rows .ensures)
 
--- src/compute.rt:41:1
 same-length-2 : tie.Need-same-length-2
 same-length-2 c = search needs
 
--- src/compute.rt:41:1
 returns-2 : tie.Need-returns-2
 returns-2 c = rw (c .before .before .before .before .match .keys2) (c .before .before .valued-rows2 .ensures)
 
--- src/compute.rt:41:1
 same-length-3 : tie.Need-same-length-3
 same-length-3 c = search needs
 
--- src/compute.rt:41:1
 returns-3 : tie.Need-returns-3
 returns-3 c = rw (c .before .before .before .before .match .keys3) (c .before .before .valued-rows3 .ensures)
 
--- src/compute.rt:41:1
 same-length-4 : tie.Need-same-length-4
 same-length-4 c = search needs
 
--- src/compute.rt:41:1
 returns-4 : tie.Need-returns-4
 returns-4 c = rw (c .before .before .before .before .match .keys4) (c .before .before .valued-rows4 .ensures)
 
--- src/compute.rt:41:1
 same-length-5 : tie.Need-same-length-5
 same-length-5 c = search needs
 
--- src/compute.rt:41:1
 returns-5 : tie.Need-returns-5
 returns-5 c = rw (c .before .before .before .before .match .keys5) (c .before .before .valued-rows5 .ensures)
 
--- src/compute.rt:41:1
 same-length-6 : tie.Need-same-length-6
 same-length-6 c = search needs
 
--- src/compute.rt:41:1
 returns-6 : tie.Need-returns-6
 returns-6 c = c .before .before .valued-rows6 .ensures
 

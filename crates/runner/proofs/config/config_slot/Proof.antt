@@ -1,50 +1,39 @@
-use Rattle.lane.proofs.Cases.{if-lt, if-ge, if-eq, if-ne}
+use borrow.Author.Needs.{needs}
 use mathlib.Core.Path.{refl}
 use native.Mathlib.Omega.{arith}
-use Rattle.runner.specs.Rows.{configSlot}
-use borrow.Author.Needs.{needs}
+use Rattle.lane.proofs.Cases.{if-lt, if-ge, if-eq, if-ne}
 use Rattle.runner.proofs.config.config_slot.Statement.{statement}
+use Rattle.runner.specs.Rows.{configSlot}
 use Rattle.runner.proofs.config.config_slot.Tie as tie
-use Rattle.runner.proofs.config.config_slot.Reads as reads
-use Rattle.runner.proofs.config.config_slot.Lts as lts
 
--- src/config.rt:20:16
 add-result : tie.Need-add-result
 add-result c = search needs
 
--- src/config.rt:20:9
 returns : tie.Need-returns
 unfolding configSlot
 returns c = (if-lt _ _ _ _ _ (c .if1 .taken) refl, omega arith)
 
--- src/config.rt:23:22
 sub-result : tie.Need-sub-result
 sub-result c = search needs
 
--- src/config.rt:23:16
 add-result-2 : tie.Need-add-result-2
 add-result-2 c = search needs
 
--- src/config.rt:23:9
 returns-2 : tie.Need-returns-2
 unfolding configSlot
 returns-2 c = (if-ge _ _ _ _ _ (c .before .if1 .left) (if-lt _ _ _ _ _ (c .if2 .taken) refl), omega arith)
 
--- src/config.rt:26:9
 returns-3 : tie.Need-returns-3
 unfolding configSlot
 returns-3 c = (if-ge _ _ _ _ _ (c .before .before .if1 .left) (if-ge _ _ _ _ _ (c .before .if2 .left) (if-eq _ _ _ _ _ (c .if3 .taken) refl)), omega arith)
 
--- src/config.rt:29:16
 sub-result-2 : tie.Need-sub-result-2
 sub-result-2 c = search needs
 
--- src/config.rt:29:9
 returns-4 : tie.Need-returns-4
 unfolding configSlot
 returns-4 c = (if-ge _ _ _ _ _ (c .before .before .before .if1 .left) (if-ge _ _ _ _ _ (c .before .before .if2 .left) (if-ne _ _ _ _ _ (c .before .if3 .left) (if-lt _ _ _ _ _ (c .if4 .taken) refl))), omega arith)
 
--- src/config.rt:16:1
 returns-5 : tie.Need-returns-5
 unfolding configSlot
 returns-5 c = (if-ge _ _ _ _ _ (c .before .before .before .if1 .left) (if-ge _ _ _ _ _ (c .before .before .if2 .left) (if-ne _ _ _ _ _ (c .before .if3 .left) (if-ge _ _ _ _ _ (c .if4 .left) refl))), omega arith)

@@ -1,17 +1,13 @@
-use Prim.Native.Nat.{_-_, _*_}
-use Rattle.runner.specs.Rows.{configWord}
-use Rattle.runner.proofs.Filled.{fill-start, fill-more, fill-end, Filled}
-use mathlib.Core.Path.{refl, ap, _∙_, _≡_}
-use lib.ListN.{getD}
-use Prim.Native.Nat.{ℕ, _+_}
-use native.Mathlib.Omega.{arith}
+use Prim.Native.Nat.{_-_, _*_, ℕ, _+_}
 use borrow.Author.Needs.{needs}
-use Rattle.runner.specs.Image.{laneIn}
+use lib.ListN.{getD}
+use mathlib.Core.Path.{refl, ap, _∙_, _≡_}
+use native.Mathlib.Omega.{arith}
+use Rattle.runner.proofs.Filled.{fill-start, fill-more, fill-end, Filled}
 use Rattle.runner.proofs.config.config_words.Statement.{statement}
+use Rattle.runner.specs.Image.{laneIn}
+use Rattle.runner.specs.Rows.{configWord}
 use Rattle.runner.proofs.config.config_words.Tie as tie
-use Rattle.runner.proofs.config.config_words.Reads as reads
-use Rattle.runner.proofs.config.config_words.Lts as lts
-use Rattle.runner.proofs.config.config_word.Reads as config-word-reads
 
 abbrev Inv-loop : tie.InvT-loop
 Inv-loop image edition i slot firsts at words₀ n₀ words n = (at ≡ 32 * slot) × Filled (λ (L : ℕ). configWord edition i (getD firsts L 0) (laneIn image L slot)) n words
@@ -19,64 +15,50 @@ Inv-loop image edition i slot firsts at words₀ n₀ words n = (at ≡ 32 * slo
 abbrev μ-loop : tie.MeasureT-loop
 μ-loop image edition i slot firsts at words₀ n₀ words n = 32 - n
 
--- src/config.rt:79:14
 mul-at : tie.Need-mul-at Inv-loop μ-loop
 unfolding laneIn
 mul-at c = omega arith
 
--- src/config.rt:82:5
 loop-holds : tie.Need-loop-holds Inv-loop μ-loop
 unfolding laneIn
 loop-holds c = (refl, fill-start _ _ (search needs))
 
--- src/config.rt:83:44
 mul-config-word : tie.Need-mul-config-word Inv-loop μ-loop
 mul-config-word c = search needs
 
--- src/config.rt:83:44
 element-copy-out-config-word : tie.Need-element-copy-out-config-word Inv-loop μ-loop
 element-copy-out-config-word c = search needs
 
--- src/config.rt:83:61
 add-config-word : tie.Need-add-config-word Inv-loop μ-loop
 add-config-word c = omega arith
 
--- src/config.rt:83:55
 mul-config-word-2 : tie.Need-mul-config-word-2 Inv-loop μ-loop
 mul-config-word-2 c = search needs
 
--- src/config.rt:83:55
 shared-slice-read-config-word : tie.Need-shared-slice-read-config-word Inv-loop μ-loop
 unfolding laneIn
 shared-slice-read-config-word c = omega arith
 
--- src/config.rt:83:20
 config-word-requires : tie.Need-config-word-requires Inv-loop μ-loop
 config-word-requires c κs = search needs
 
--- src/config.rt:83:9
 mul-words : tie.Need-mul-words Inv-loop μ-loop
 mul-words c = search needs
 
--- src/config.rt:83:9
 array-write-words : tie.Need-array-write-words Inv-loop μ-loop
 unfolding laneIn
 array-write-words c = search needs
 
--- src/config.rt:84:9
 add-n : tie.Need-add-n Inv-loop μ-loop
 add-n c = omega arith
 
--- src/config.rt:82:5
 loop-less : tie.Need-loop-less Inv-loop μ-loop
 loop-less c = omega arith
 
--- src/config.rt:82:5
 loop-again : tie.Need-loop-again Inv-loop μ-loop
 unfolding laneIn
 loop-again c = (c .before .before .before .before .loop .inv .0, fill-more _ _ _ _ (c .before .before .before .loop-test .taken) (c .before .before .before .before .loop .inv .1) (c .config-word .ensures ∙ ap (λ (k : ℕ). configWord (c .before .before .before .before .before .before .args .edition) (c .before .before .before .before .before .before .args .i) (getD (c .before .before .before .before .before .before .args .firsts .now) (c .before .before .before .before .loop .n) 0) (getD (c .before .before .before .before .before .before .args .image .now) (k + c .before .before .before .before .loop .n) 0)) (c .before .before .before .before .loop .inv .0)))
 
--- src/config.rt:75:1
 returns : tie.Need-returns Inv-loop μ-loop
 unfolding laneIn
 returns c = fill-end _ _ _ (c .loop-test .left) (c .before .loop .inv .1)

@@ -1,15 +1,11 @@
-use Prim.Native.Nat.{_-_}
-use Rattle.runner.specs.Rows.{placeIn}
-use Rattle.runner.proofs.Filled.{fill-start, fill-more, fill-end, Filled}
-use lib.ListN.{getD}
-use Prim.Native.Nat.{ℕ}
-use native.Mathlib.Omega.{arith}
+use Prim.Native.Nat.{_-_, ℕ}
 use borrow.Author.Needs.{needs}
+use lib.ListN.{getD}
+use native.Mathlib.Omega.{arith}
+use Rattle.runner.proofs.Filled.{fill-start, fill-more, fill-end, Filled}
 use Rattle.runner.proofs.load.cells.Statement.{statement}
+use Rattle.runner.specs.Rows.{placeIn}
 use Rattle.runner.proofs.load.cells.Tie as tie
-use Rattle.runner.proofs.load.cells.Reads as reads
-use Rattle.runner.proofs.load.cells.Lts as lts
-use Rattle.runner.proofs.load.cell_at.Reads as cell-at-reads
 
 abbrev Inv-loop : tie.InvT-loop
 Inv-loop dst a heads gathered₀ n₀ gathered n = Filled (λ (L : ℕ). getD dst (placeIn a (getD heads L 0) L) 0) n gathered
@@ -17,43 +13,33 @@ Inv-loop dst a heads gathered₀ n₀ gathered n = Filled (λ (L : ℕ). getD ds
 abbrev μ-loop : tie.MeasureT-loop
 μ-loop dst a heads gathered₀ n₀ gathered n = 32 - n
 
--- src/load.rt:32:5
 loop-holds : tie.Need-loop-holds Inv-loop μ-loop
 loop-holds c = fill-start _ _ (search needs)
 
--- src/load.rt:33:42
 mul-cell-at : tie.Need-mul-cell-at Inv-loop μ-loop
 mul-cell-at c = search needs
 
--- src/load.rt:33:42
 element-copy-out-cell-at : tie.Need-element-copy-out-cell-at Inv-loop μ-loop
 element-copy-out-cell-at c = search needs
 
--- src/load.rt:33:23
 cell-at-requires : tie.Need-cell-at-requires Inv-loop μ-loop
 cell-at-requires c κs = (c .before .before .before .before .pre .0, (c .before .before .before .before .pre .1, c .before .loop-test .taken))
 
--- src/load.rt:33:9
 mul-gathered : tie.Need-mul-gathered Inv-loop μ-loop
 mul-gathered c = search needs
 
--- src/load.rt:33:9
 array-write-gathered : tie.Need-array-write-gathered Inv-loop μ-loop
 array-write-gathered c = search needs
 
--- src/load.rt:34:9
 add-n : tie.Need-add-n Inv-loop μ-loop
 add-n c = omega arith
 
--- src/load.rt:32:5
 loop-less : tie.Need-loop-less Inv-loop μ-loop
 loop-less c = omega arith
 
--- src/load.rt:32:5
 loop-again : tie.Need-loop-again Inv-loop μ-loop
 loop-again c = fill-more _ _ _ _ (c .before .before .loop-test .taken) (c .before .before .before .loop .inv) (c .cell-at .ensures)
 
--- src/load.rt:26:1
 returns : tie.Need-returns Inv-loop μ-loop
 returns c = fill-end _ _ _ (c .loop-test .left) (c .before .loop .inv)
 

@@ -1,103 +1,76 @@
 use borrow.Author.Needs.{needs}
 use Rattle.runner.proofs.load.load_by_mod.Statement.{statement}
 use Rattle.runner.proofs.load.load_by_mod.Tie as tie
-use Rattle.runner.proofs.load.load_by_mod.Reads as reads
-use Rattle.runner.proofs.load.load_by_mod.Lts as lts
-use Rattle.runner.proofs.load.load_rows.Reads as load-rows-reads
 
--- src/load.rt:67:14
 load-rows-requires : tie.Need-load-rows-requires
 load-rows-requires c κs = search needs
 
--- src/load.rt:68:14
 load-rows-requires-2 : tie.Need-load-rows-requires-2
 load-rows-requires-2 c κs = search needs
 
--- src/load.rt:69:14
 load-rows-requires-3 : tie.Need-load-rows-requires-3
 load-rows-requires-3 c κs = search needs
 
--- src/load.rt:70:14
 load-rows-requires-4 : tie.Need-load-rows-requires-4
 load-rows-requires-4 c κs = search needs
 
--- src/load.rt:71:15
 load-rows-requires-5 : tie.Need-load-rows-requires-5
 load-rows-requires-5 c κs = search needs
 
--- src/load.rt:72:15
 load-rows-requires-6 : tie.Need-load-rows-requires-6
 load-rows-requires-6 c κs = search needs
 
--- src/load.rt:73:15
 load-rows-requires-7 : tie.Need-load-rows-requires-7
 load-rows-requires-7 c κs = search needs
 
--- src/load.rt:74:14
 load-rows-requires-8 : tie.Need-load-rows-requires-8
 load-rows-requires-8 c κs = search needs
 
--- src/load.rt:62:1
 same-length : tie.Need-same-length
 same-length c = search needs
 
--- src/load.rt:62:1
 returns : tie.Need-returns
 returns c = rw (c .before .before .before .before .match .keys1) (c .before .before .load-rows .ensures)
 
--- src/load.rt:62:1
 same-length-2 : tie.Need-same-length-2
 same-length-2 c = search needs
 
--- src/load.rt:62:1
 returns-2 : tie.Need-returns-2
 returns-2 c = rw (c .before .before .before .before .match .keys2) (c .before .before .load-rows2 .ensures)
 
--- src/load.rt:62:1
 same-length-3 : tie.Need-same-length-3
 same-length-3 c = search needs
 
--- src/load.rt:62:1
 returns-3 : tie.Need-returns-3
 returns-3 c = rw (c .before .before .before .before .match .keys3) (c .before .before .load-rows3 .ensures)
 
--- src/load.rt:62:1
 same-length-4 : tie.Need-same-length-4
 same-length-4 c = search needs
 
--- src/load.rt:62:1
 returns-4 : tie.Need-returns-4
 returns-4 c = rw (c .before .before .before .before .match .keys4) (c .before .before .load-rows4 .ensures)
 
--- src/load.rt:62:1
 same-length-5 : tie.Need-same-length-5
 same-length-5 c = search needs
 
--- src/load.rt:62:1
 returns-5 : tie.Need-returns-5
 returns-5 c = rw (c .before .before .before .before .match .keys5) (c .before .before .load-rows5 .ensures)
 
--- src/load.rt:62:1
 same-length-6 : tie.Need-same-length-6
 same-length-6 c = search needs
 
--- src/load.rt:62:1
 returns-6 : tie.Need-returns-6
 returns-6 c = rw (c .before .before .before .before .match .keys6) (c .before .before .load-rows6 .ensures)
 
--- src/load.rt:62:1
 same-length-7 : tie.Need-same-length-7
 same-length-7 c = search needs
 
--- src/load.rt:62:1
 returns-7 : tie.Need-returns-7
 returns-7 c = rw (c .before .before .before .before .match .keys7) (c .before .before .load-rows7 .ensures)
 
--- src/load.rt:62:1
 same-length-8 : tie.Need-same-length-8
 same-length-8 c = search needs
 
--- src/load.rt:62:1
 returns-8 : tie.Need-returns-8
 returns-8 c = c .before .before .load-rows8 .ensures
 

@@ -1,15 +1,11 @@
-use Prim.Native.Nat.{_-_}
+use Prim.Native.Nat.{_-_, ℕ}
+use mathlib.Core.Path.{sym, _∙_}
+use native.Mathlib.Omega.{arith}
 use Rattle.lane.specs.Load.{loadi}
 use Rattle.lane.specs.Words.{Lane}
 use Rattle.runner.proofs.Lanes.{turn-start, turned-length, turn-more, turn-end, Turned}
-use mathlib.Core.Path.{sym, _∙_}
-use Prim.Native.Nat.{ℕ}
-use native.Mathlib.Omega.{arith}
 use Rattle.runner.proofs.load.loadi_rows.Statement.{statement}
 use Rattle.runner.proofs.load.loadi_rows.Tie as tie
-use Rattle.runner.proofs.load.loadi_rows.Reads as reads
-use Rattle.runner.proofs.load.loadi_rows.Lts as lts
-use Rattle.runner.proofs.load.loadi_at.Reads as loadi-at-reads
 
 abbrev Inv-loop : tie.InvT-loop
 Inv-loop image₀ i n₀ image n = Turned (λ (L : ℕ) (own : Lane). loadi i own) image₀ n image
@@ -17,31 +13,24 @@ Inv-loop image₀ i n₀ image n = Turned (λ (L : ℕ) (own : Lane). loadi i ow
 abbrev μ-loop : tie.MeasureT-loop
 μ-loop image₀ i n₀ image n = 32 - n
 
--- src/load.rt:144:5
 loop-holds : tie.Need-loop-holds Inv-loop μ-loop
 loop-holds c = turn-start _ _ (c .before .pre .0)
 
--- src/load.rt:145:9
 loadi-at-requires : tie.Need-loadi-at-requires Inv-loop μ-loop
 loadi-at-requires c κs = (turned-length _ _ _ _ (c .before .before .loop .inv), (c .before .loop-test .taken, c .before .before .before .before .pre .1))
 
--- src/load.rt:146:9
 add-n : tie.Need-add-n Inv-loop μ-loop
 add-n c = omega arith
 
--- src/load.rt:144:5
 loop-less : tie.Need-loop-less Inv-loop μ-loop
 loop-less c = omega arith
 
--- src/load.rt:144:5
 loop-again : tie.Need-loop-again Inv-loop μ-loop
 loop-again c = turn-more _ _ _ _ _ (c .before .before .before .before .before .before .before .pre .0) (c .before .before .before .before .loop-test .taken) (c .before .before .before .before .before .loop .inv) (c .before .before .loadi-at .ensures)
 
--- src/load.rt:139:1
 same-length : tie.Need-same-length Inv-loop μ-loop
 same-length c = turned-length _ _ _ _ (c .before .loop .inv) ∙ sym (c .before .before .before .pre .0)
 
--- src/load.rt:139:1
 returns : tie.Need-returns Inv-loop μ-loop
 returns c = turn-end _ _ _ _ (c .loop-test .left) (c .before .loop .inv)
 

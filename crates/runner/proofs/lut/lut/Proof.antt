@@ -1,62 +1,44 @@
-use Rattle.runner.specs.Image.{laneIn}
+use borrow.Author.Needs.{needs}
 use Rattle.runner.proofs.Filled.{operand}
 use Rattle.runner.proofs.LutConfig.{lut-scattered, lut-stored, lut-none}
 use Rattle.runner.proofs.Made.{whole-same, whole-none, whole-not}
-use borrow.Author.Needs.{needs}
 use Rattle.runner.proofs.lut.lut.Statement.{statement}
+use Rattle.runner.specs.Image.{laneIn}
 use Rattle.runner.proofs.lut.lut.Tie as tie
-use Rattle.runner.proofs.lut.lut.Reads as reads
-use Rattle.runner.proofs.lut.lut.Lts as lts
-use Rattle.runner.proofs.lut.lut_tests.Reads as lut-tests-reads
-use Rattle.runner.proofs.lut.lut_words.Reads as lut-words-reads
-use Rattle.runner.proofs.lut.scatter_rows.Reads as scatter-rows-reads
-use Rattle.runner.proofs.store_rows.Reads as store-rows-reads
 
--- src/lut.rt:87:21
 lut-tests-requires : tie.Need-lut-tests-requires
 lut-tests-requires c κs = search needs
 
--- src/lut.rt:88:21
 lut-words-requires : tie.Need-lut-words-requires
 lut-words-requires c κs = search needs
 
--- src/lut.rt:90:13
 scatter-rows-requires : tie.Need-scatter-rows-requires
 scatter-rows-requires c κs = search needs
 
--- src/lut.rt:92:31
 cast-store-rows : tie.Need-cast-store-rows
 cast-store-rows c = search needs
 
--- src/lut.rt:92:13
 store-rows-requires : tie.Need-store-rows-requires
 store-rows-requires c κs = search needs
 
--- src/lut.rt:83:1
 same-length : tie.Need-same-length
 same-length c = search needs
 
--- src/lut.rt:83:1
 returns : tie.Need-returns
 returns c = whole-same _ _ _ _ (c .before .before .before .before .before .before .before .before .before .before .before .before .if1 .taken) (c .before .before .scatter-rows .ensures) (λ L l. lut-scattered (c .before .before .before .before .before .before .before .before .before .before .before .before .before .before .args .i) (laneIn (c .before .before .before .before .before .before .before .before .before .before .before .before .before .before .args .image .now) L) _ _ (operand _ _ (c .before .before .before .before .before .before .before .before .before .before .lut-tests .ensures) L l) (operand _ _ (c .before .before .before .before .before .before .before .before .lut-words .ensures) L l) (c .before .before .before .before .before .before .if2 .taken))
 
--- src/lut.rt:83:1
 same-length-2 : tie.Need-same-length-2
 same-length-2 c = search needs
 
--- src/lut.rt:83:1
 returns-2 : tie.Need-returns-2
 returns-2 c = whole-same _ _ _ _ (c .before .before .before .before .before .before .before .before .before .before .before .before .before .before .before .if1 .taken) (c .before .before .store-rows .ensures) (λ L l. lut-stored (c .before .before .before .before .before .before .before .before .before .before .before .before .before .before .before .before .before .args .i) (laneIn (c .before .before .before .before .before .before .before .before .before .before .before .before .before .before .before .before .before .args .image .now) L) _ _ (operand _ _ (c .before .before .before .before .before .before .before .before .before .before .before .before .before .lut-tests .ensures) L l) (operand _ _ (c .before .before .before .before .before .before .before .before .before .before .before .lut-words .ensures) L l) (c .before .before .before .before .before .before .before .before .before .if2 .left) (c .before .before .before .before .before .before .before .if3 .taken))
 
--- src/lut.rt:83:1
 same-length-3 : tie.Need-same-length-3
 same-length-3 c = search needs
 
--- src/lut.rt:83:1
 returns-3 : tie.Need-returns-3
 returns-3 c = whole-none _ _ (c .before .before .before .before .before .before .before .before .if1 .taken) (λ L l. lut-none (c .before .before .before .before .before .before .before .before .before .before .args .i) (laneIn (c .before .before .before .before .before .before .before .before .before .before .args .image .now) L) _ _ (operand _ _ (c .before .before .before .before .before .before .lut-tests .ensures) L l) (operand _ _ (c .before .before .before .before .lut-words .ensures) L l) (c .before .before .if2 .left) (c .if3 .left))
 
--- src/lut.rt:83:1
 returns-4 : tie.Need-returns-4
 returns-4 c = whole-not _ _ (c .if1 .left)
 

@@ -1,15 +1,11 @@
-use Prim.Native.Nat.{_-_}
+use Prim.Native.Nat.{_-_, ℕ}
+use borrow.Author.Needs.{needs}
+use native.Mathlib.Omega.{arith}
+use Rattle.runner.proofs.Filled.{fill-start, fill-more, fill-end, Filled}
+use Rattle.runner.proofs.lut.lut_words.Statement.{statement}
 use Rattle.runner.specs.Image.{laneIn}
 use Rattle.runner.specs.Rows.{lutWordOf}
-use Rattle.runner.proofs.Filled.{fill-start, fill-more, fill-end, Filled}
-use Prim.Native.Nat.{ℕ}
-use native.Mathlib.Omega.{arith}
-use borrow.Author.Needs.{needs}
-use Rattle.runner.proofs.lut.lut_words.Statement.{statement}
 use Rattle.runner.proofs.lut.lut_words.Tie as tie
-use Rattle.runner.proofs.lut.lut_words.Reads as reads
-use Rattle.runner.proofs.lut.lut_words.Lts as lts
-use Rattle.runner.proofs.lut.lut_word_at.Reads as lut-word-at-reads
 
 abbrev Inv-loop : tie.InvT-loop
 Inv-loop image m words₀ n₀ words n = Filled (λ (L : ℕ). lutWordOf m (laneIn image L)) n words
@@ -17,35 +13,27 @@ Inv-loop image m words₀ n₀ words n = Filled (λ (L : ℕ). lutWordOf m (lane
 abbrev μ-loop : tie.MeasureT-loop
 μ-loop image m words₀ n₀ words n = 32 - n
 
--- src/lut.rt:53:5
 loop-holds : tie.Need-loop-holds Inv-loop μ-loop
 loop-holds c = fill-start _ _ (search needs)
 
--- src/lut.rt:54:20
 lut-word-at-requires : tie.Need-lut-word-at-requires Inv-loop μ-loop
 lut-word-at-requires c κs = (c .before .before .before .pre, c .loop-test .taken)
 
--- src/lut.rt:54:9
 mul-words : tie.Need-mul-words Inv-loop μ-loop
 mul-words c = search needs
 
--- src/lut.rt:54:9
 array-write-words : tie.Need-array-write-words Inv-loop μ-loop
 array-write-words c = search needs
 
--- src/lut.rt:55:9
 add-n : tie.Need-add-n Inv-loop μ-loop
 add-n c = omega arith
 
--- src/lut.rt:53:5
 loop-less : tie.Need-loop-less Inv-loop μ-loop
 loop-less c = omega arith
 
--- src/lut.rt:53:5
 loop-again : tie.Need-loop-again Inv-loop μ-loop
 loop-again c = fill-more _ _ _ _ (c .before .loop-test .taken) (c .before .before .loop .inv) (c .lut-word-at .ensures)
 
--- src/lut.rt:47:1
 returns : tie.Need-returns Inv-loop μ-loop
 returns c = fill-end _ _ _ (c .loop-test .left) (c .before .loop .inv)
 

@@ -1,17 +1,13 @@
-use Prim.Native.Nat.{_-_}
-use Rattle.lane.specs.Words.{Lane}
-use Rattle.runner.specs.Rows.{scattered}
-use Rattle.runner.proofs.Lanes.{turn-start, turned-length, turn-more, turn-end, Turned}
-use mathlib.Core.Path.{sym, _∙_}
-use lib.ListN.{getD}
-use Prim.Native.Nat.{ℕ}
-use native.Mathlib.Omega.{arith}
+use Prim.Native.Nat.{_-_, ℕ}
 use borrow.Author.Needs.{needs}
+use lib.ListN.{getD}
+use mathlib.Core.Path.{sym, _∙_}
+use native.Mathlib.Omega.{arith}
+use Rattle.lane.specs.Words.{Lane}
+use Rattle.runner.proofs.Lanes.{turn-start, turned-length, turn-more, turn-end, Turned}
 use Rattle.runner.proofs.lut.scatter_rows.Statement.{statement}
+use Rattle.runner.specs.Rows.{scattered}
 use Rattle.runner.proofs.lut.scatter_rows.Tie as tie
-use Rattle.runner.proofs.lut.scatter_rows.Reads as reads
-use Rattle.runner.proofs.lut.scatter_rows.Lts as lts
-use Rattle.runner.proofs.lut.scatter_at.Reads as scatter-at-reads
 
 abbrev Inv-loop : tie.InvT-loop
 Inv-loop image₀ tests words n₀ image n = Turned (λ (L : ℕ) (own : Lane). scattered (getD tests L 0) (getD words L 0) own) image₀ n image
@@ -19,47 +15,36 @@ Inv-loop image₀ tests words n₀ image n = Turned (λ (L : ℕ) (own : Lane). 
 abbrev μ-loop : tie.MeasureT-loop
 μ-loop image₀ tests words n₀ image n = 32 - n
 
--- src/lut.rt:76:5
 loop-holds : tie.Need-loop-holds Inv-loop μ-loop
 loop-holds c = turn-start _ _ (c .before .pre)
 
--- src/lut.rt:77:30
 mul-scatter-at : tie.Need-mul-scatter-at Inv-loop μ-loop
 mul-scatter-at c = search needs
 
--- src/lut.rt:77:30
 element-copy-out-scatter-at : tie.Need-element-copy-out-scatter-at Inv-loop μ-loop
 element-copy-out-scatter-at c = search needs
 
--- src/lut.rt:77:40
 mul-scatter-at-2 : tie.Need-mul-scatter-at-2 Inv-loop μ-loop
 mul-scatter-at-2 c = search needs
 
--- src/lut.rt:77:40
 element-copy-out-scatter-at-2 : tie.Need-element-copy-out-scatter-at-2 Inv-loop μ-loop
 element-copy-out-scatter-at-2 c = search needs
 
--- src/lut.rt:77:9
 scatter-at-requires : tie.Need-scatter-at-requires Inv-loop μ-loop
 scatter-at-requires c κs = (turned-length _ _ _ _ (c .before .before .before .before .loop .inv), c .before .before .before .loop-test .taken)
 
--- src/lut.rt:78:9
 add-n : tie.Need-add-n Inv-loop μ-loop
 add-n c = omega arith
 
--- src/lut.rt:76:5
 loop-less : tie.Need-loop-less Inv-loop μ-loop
 loop-less c = omega arith
 
--- src/lut.rt:76:5
 loop-again : tie.Need-loop-again Inv-loop μ-loop
 loop-again c = turn-more _ _ _ _ _ (c .before .before .before .before .before .before .before .before .before .pre) (c .before .before .before .before .before .before .loop-test .taken) (c .before .before .before .before .before .before .before .loop .inv) (c .before .before .scatter-at .ensures)
 
--- src/lut.rt:71:1
 same-length : tie.Need-same-length Inv-loop μ-loop
 same-length c = turned-length _ _ _ _ (c .before .loop .inv) ∙ sym (c .before .before .before .pre)
 
--- src/lut.rt:71:1
 returns : tie.Need-returns Inv-loop μ-loop
 returns c = turn-end _ _ _ _ (c .loop-test .left) (c .before .loop .inv)
 

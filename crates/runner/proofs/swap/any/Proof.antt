@@ -1,19 +1,15 @@
-use Rattle.runner.proofs.Filled.{none-below}
+use Prim.Native.Nat.{_-_, ℕ, _<_, _≤_}
 use borrow.Author.Count.{below-more}
-use mathlib.Core.Bool.{true≢false}
-use Prim.Native.Nat.{_-_}
-use mathlib.Core.Path.{_≡_}
-use mathlib.Core.Bool.{true, false}
-use lib.Dec.{eqb}
-use lib.ListN.{getD}
-use Prim.Native.Nat.{ℕ, _<_, _≤_}
-use native.Mathlib.Omega.{arith}
 use borrow.Author.Needs.{needs}
 use borrow.Author.Tests.{ne-eqb}
+use lib.Dec.{eqb}
+use lib.ListN.{getD}
+use mathlib.Core.Bool.{true≢false, true, false}
+use mathlib.Core.Path.{_≡_}
+use native.Mathlib.Omega.{arith}
+use Rattle.runner.proofs.Filled.{none-below}
 use Rattle.runner.proofs.swap.any.Statement.{statement}
 use Rattle.runner.proofs.swap.any.Tie as tie
-use Rattle.runner.proofs.swap.any.Reads as reads
-use Rattle.runner.proofs.swap.any.Lts as lts
 
 abbrev Inv-loop : tie.InvT-loop
 Inv-loop tests n₀ n = (n ≤ 32) × ((L : ℕ) → L < n → eqb (getD tests L 0) 1 ≡ false)
@@ -21,35 +17,27 @@ Inv-loop tests n₀ n = (n ≤ 32) × ((L : ℕ) → L < n → eqb (getD tests L
 abbrev μ-loop : tie.MeasureT-loop
 μ-loop tests n₀ n = 32 - n
 
--- src/swap.rt:83:5
 loop-holds : tie.Need-loop-holds Inv-loop μ-loop
 loop-holds c = (omega arith, λ L l. absurd (none-below L l))
 
--- src/swap.rt:84:12
 mul-if1 : tie.Need-mul-if1 Inv-loop μ-loop
 mul-if1 c = search needs
 
--- src/swap.rt:84:12
 element-copy-out-if1 : tie.Need-element-copy-out-if1 Inv-loop μ-loop
 element-copy-out-if1 c = search needs
 
--- src/swap.rt:85:13
 returns : tie.Need-returns Inv-loop μ-loop
 returns c = λ e. absurd (true≢false e)
 
--- src/swap.rt:87:9
 add-n : tie.Need-add-n Inv-loop μ-loop
 add-n c = omega arith
 
--- src/swap.rt:83:5
 loop-less : tie.Need-loop-less Inv-loop μ-loop
 loop-less c = omega arith
 
--- src/swap.rt:83:5
 loop-again : tie.Need-loop-again Inv-loop μ-loop
 loop-again c = (omega arith, below-more _ (c .before .before .before .loop .n) (c .before .before .before .loop .inv .1) (ne-eqb _ _ (c .if1 .left)))
 
--- src/swap.rt:79:1
 returns-2 : tie.Need-returns-2 Inv-loop μ-loop
 returns-2 c = λ e L l. c .before .loop .inv .1 L (omega arith)
 

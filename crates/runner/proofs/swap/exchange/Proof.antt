@@ -1,33 +1,23 @@
-use Rattle.runner.proofs.Swaps.{exchange-rows}
 use borrow.Author.Needs.{needs}
+use Rattle.runner.proofs.Swaps.{exchange-rows}
 use Rattle.runner.proofs.swap.exchange.Statement.{statement}
 use Rattle.runner.proofs.swap.exchange.Tie as tie
-use Rattle.runner.proofs.swap.exchange.Reads as reads
-use Rattle.runner.proofs.swap.exchange.Lts as lts
-use Rattle.runner.proofs.slot_row.Reads as slot-row-reads
-use Rattle.runner.proofs.store_rows.Reads as store-rows-reads
 
--- src/swap.rt:72:13
 slot-row-requires : tie.Need-slot-row-requires
 slot-row-requires c κs = search needs
 
--- src/swap.rt:73:13
 slot-row-requires-2 : tie.Need-slot-row-requires-2
 slot-row-requires-2 c κs = search needs
 
--- src/swap.rt:74:5
 store-rows-requires : tie.Need-store-rows-requires
 store-rows-requires c κs = search needs
 
--- src/swap.rt:75:5
 store-rows-requires-2 : tie.Need-store-rows-requires-2
 store-rows-requires-2 c κs = search needs
 
--- src/swap.rt:68:1
 same-length : tie.Need-same-length
 same-length c = search needs
 
--- src/swap.rt:68:1
 returns : tie.Need-returns
 returns c = exchange-rows (c .before .before .before .before .before .before .before .before .before .before .before .before .before .before .before .args .image .now) (c .before .before .before .before .before .before .before .store-rows .last .0) (c .before .before .store-rows2 .last .0) (c .before .before .before .before .before .before .before .before .before .before .before .before .before .before .before .args .ic) (c .before .before .before .before .before .before .before .before .before .before .before .before .before .before .before .args .id) (c .before .before .before .before .before .before .before .before .before .before .before .before .before .before .before .args .indexed .now) _ _ (c .before .before .before .before .before .before .before .before .before .before .before .before .slot-row .ensures) (c .before .before .before .before .before .before .before .before .before .before .slot-row2 .ensures) (c .before .before .before .before .before .before .before .store-rows .ensures) (c .before .before .store-rows2 .ensures)
 

@@ -1,20 +1,15 @@
-use Prim.Native.Nat.{_-_}
-use mathlib.Core.Bool.{_&&_}
-use Rattle.lane.specs.Words.{bit}
-use Rattle.runner.specs.Rows.{sameTruth}
-use Rattle.runner.proofs.Filled.{fill-start, fill-more, fill-end, Filled}
+use Prim.Native.Nat.{_-_, ℕ}
+use borrow.Author.Needs.{needs}
 use lib.Dec.{eqb}
 use lib.ListN.{getD}
-use Prim.Native.Nat.{ℕ}
+use mathlib.Core.Bool.{_&&_}
 use native.Mathlib.Omega.{arith}
-use borrow.Author.Needs.{needs}
-use Rattle.lane.specs.Words.{flagOf}
-use Rattle.runner.specs.Image.{laneIn}
+use Rattle.lane.specs.Words.{bit, flagOf}
+use Rattle.runner.proofs.Filled.{fill-start, fill-more, fill-end, Filled}
 use Rattle.runner.proofs.swap.index_tests.Statement.{statement}
+use Rattle.runner.specs.Image.{laneIn}
+use Rattle.runner.specs.Rows.{sameTruth}
 use Rattle.runner.proofs.swap.index_tests.Tie as tie
-use Rattle.runner.proofs.swap.index_tests.Reads as reads
-use Rattle.runner.proofs.swap.index_tests.Lts as lts
-use Rattle.lane.proofs.words.keep.Reads as keep-reads
 
 abbrev Inv-loop : tie.InvT-loop
 Inv-loop image tests index chosen₀ n₀ chosen n = Filled (λ (L : ℕ). flagOf (eqb (getD tests L 0) 1 && sameTruth index (bit (laneIn image L 12) 2))) n chosen
@@ -22,57 +17,44 @@ Inv-loop image tests index chosen₀ n₀ chosen n = Filled (λ (L : ℕ). flagO
 abbrev μ-loop : tie.MeasureT-loop
 μ-loop image tests index chosen₀ n₀ chosen n = 32 - n
 
--- src/swap.rt:48:5
 loop-holds : tie.Need-loop-holds Inv-loop μ-loop
 unfolding flagOf laneIn
 loop-holds c = fill-start _ _ (search needs)
 
--- src/swap.rt:49:27
 mul-keep : tie.Need-mul-keep Inv-loop μ-loop
 mul-keep c = search needs
 
--- src/swap.rt:49:27
 element-copy-out-keep : tie.Need-element-copy-out-keep Inv-loop μ-loop
 element-copy-out-keep c = search needs
 
--- src/swap.rt:49:61
 add-keep : tie.Need-add-keep Inv-loop μ-loop
 add-keep c = omega arith
 
--- src/swap.rt:49:55
 mul-keep-2 : tie.Need-mul-keep-2 Inv-loop μ-loop
 mul-keep-2 c = search needs
 
--- src/swap.rt:49:55
 shared-slice-read-keep : tie.Need-shared-slice-read-keep Inv-loop μ-loop
 shared-slice-read-keep c = search needs
 
--- src/swap.rt:49:21
 keep-requires : tie.Need-keep-requires Inv-loop μ-loop
 keep-requires c κs = search needs
 
--- src/swap.rt:49:9
 mul-chosen : tie.Need-mul-chosen Inv-loop μ-loop
 mul-chosen c = search needs
 
--- src/swap.rt:49:9
 array-write-chosen : tie.Need-array-write-chosen Inv-loop μ-loop
 array-write-chosen c = search needs
 
--- src/swap.rt:50:9
 add-n : tie.Need-add-n Inv-loop μ-loop
 add-n c = omega arith
 
--- src/swap.rt:48:5
 loop-less : tie.Need-loop-less Inv-loop μ-loop
 loop-less c = omega arith
 
--- src/swap.rt:48:5
 loop-again : tie.Need-loop-again Inv-loop μ-loop
 unfolding flagOf laneIn
 loop-again c = fill-more _ _ _ _ (c .before .before .before .loop-test .taken) (c .before .before .before .before .loop .inv) (c .keep .ensures)
 
--- src/swap.rt:42:1
 returns : tie.Need-returns Inv-loop μ-loop
 unfolding flagOf laneIn
 returns c = fill-end _ _ _ (c .loop-test .left) (c .before .loop .inv)

@@ -1,38 +1,28 @@
-use Rattle.runner.proofs.Swaps.{stored-low, stored-high, stored-none}
-use Rattle.runner.proofs.Lanes.{storing-same, storing-none}
-use mathlib.Core.Path.{sym, _∙_}
 use borrow.Author.Needs.{needs}
+use mathlib.Core.Path.{sym, _∙_}
+use Rattle.runner.proofs.Lanes.{storing-same, storing-none}
+use Rattle.runner.proofs.Swaps.{stored-low, stored-high, stored-none}
 use Rattle.runner.proofs.swap.swap_store.Statement.{statement}
 use Rattle.runner.proofs.swap.swap_store.Tie as tie
-use Rattle.runner.proofs.swap.swap_store.Reads as reads
-use Rattle.runner.proofs.swap.swap_store.Lts as lts
-use Rattle.runner.proofs.store_rows.Reads as store-rows-reads
 
--- src/swap.rt:61:9
 store-rows-requires : tie.Need-store-rows-requires
 store-rows-requires c κs = search needs
 
--- src/swap.rt:63:9
 store-rows-requires-2 : tie.Need-store-rows-requires-2
 store-rows-requires-2 c κs = search needs
 
--- src/swap.rt:56:1
 same-length : tie.Need-same-length
 same-length c = search needs
 
--- src/swap.rt:56:1
 returns : tie.Need-returns
 returns c = c .before .before .store-rows .ensures ∙ storing-same _ _ _ (λ L l. stored-low (c .before .before .before .before .before .before .args .r) (c .before .before .before .before .before .before .args .tests .now) (c .before .before .before .before .before .before .args .plain .now) (c .before .before .before .before .before .before .args .words .now) L (c .before .before .before .before .if1 .taken))
 
--- src/swap.rt:56:1
 same-length-2 : tie.Need-same-length-2
 same-length-2 c = search needs
 
--- src/swap.rt:56:1
 returns-2 : tie.Need-returns-2
 returns-2 c = c .before .before .store-rows2 .ensures ∙ storing-same _ _ _ (λ L l. stored-high (c .before .before .before .before .before .before .before .args .r) (c .before .before .before .before .before .before .before .args .tests .now) (c .before .before .before .before .before .before .before .args .plain .now) (c .before .before .before .before .before .before .before .args .words .now) L (c .before .before .before .before .before .if1 .left) (c .before .before .before .before .if2 .taken))
 
--- src/swap.rt:56:1
 returns-3 : tie.Need-returns-3
 returns-3 c = sym (storing-none _ _ (c .before .before .before .pre) (λ L l. stored-none (c .before .before .before .args .r) (c .before .before .before .args .tests .now) (c .before .before .before .args .plain .now) (c .before .before .before .args .words .now) L (c .if2 .left)))
 

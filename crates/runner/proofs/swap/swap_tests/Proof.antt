@@ -1,17 +1,13 @@
-use Prim.Native.Nat.{_-_}
+use Prim.Native.Nat.{_-_, ℕ}
+use borrow.Author.Needs.{needs}
+use lib.ListN.{getD}
+use native.Mathlib.Omega.{arith}
 use Rattle.lane.specs.Words.{flagOf}
+use Rattle.runner.proofs.Filled.{fill-start, fill-more, fill-end, Filled}
+use Rattle.runner.proofs.swap.swap_tests.Statement.{statement}
 use Rattle.runner.specs.Image.{laneIn}
 use Rattle.runner.specs.Rows.{swapTest}
-use Rattle.runner.proofs.Filled.{fill-start, fill-more, fill-end, Filled}
-use lib.ListN.{getD}
-use Prim.Native.Nat.{ℕ}
-use native.Mathlib.Omega.{arith}
-use borrow.Author.Needs.{needs}
-use Rattle.runner.proofs.swap.swap_tests.Statement.{statement}
 use Rattle.runner.proofs.swap.swap_tests.Tie as tie
-use Rattle.runner.proofs.swap.swap_tests.Reads as reads
-use Rattle.runner.proofs.swap.swap_tests.Lts as lts
-use Rattle.runner.proofs.swap.swap_test.Reads as swap-test-reads
 
 abbrev Inv-loop : tie.InvT-loop
 Inv-loop image mask i c d tests₀ n₀ tests n = Filled (λ (L : ℕ). flagOf (swapTest mask i L (getD c L 0) (getD d L 0) (laneIn image L))) n tests
@@ -19,51 +15,39 @@ Inv-loop image mask i c d tests₀ n₀ tests n = Filled (λ (L : ℕ). flagOf (
 abbrev μ-loop : tie.MeasureT-loop
 μ-loop image mask i c d tests₀ n₀ tests n = 32 - n
 
--- src/swap.rt:34:5
 loop-holds : tie.Need-loop-holds Inv-loop μ-loop
 loop-holds c = fill-start _ _ (search needs)
 
--- src/swap.rt:35:49
 mul-swap-test : tie.Need-mul-swap-test Inv-loop μ-loop
 mul-swap-test c = search needs
 
--- src/swap.rt:35:49
 element-copy-out-swap-test : tie.Need-element-copy-out-swap-test Inv-loop μ-loop
 element-copy-out-swap-test c = search needs
 
--- src/swap.rt:35:55
 mul-swap-test-2 : tie.Need-mul-swap-test-2 Inv-loop μ-loop
 mul-swap-test-2 c = search needs
 
--- src/swap.rt:35:55
 element-copy-out-swap-test-2 : tie.Need-element-copy-out-swap-test-2 Inv-loop μ-loop
 element-copy-out-swap-test-2 c = search needs
 
--- src/swap.rt:35:20
 swap-test-requires : tie.Need-swap-test-requires Inv-loop μ-loop
 swap-test-requires c κs = (c .before .before .before .before .before .pre, c .before .before .loop-test .taken)
 
--- src/swap.rt:35:9
 mul-tests : tie.Need-mul-tests Inv-loop μ-loop
 mul-tests c = search needs
 
--- src/swap.rt:35:9
 array-write-tests : tie.Need-array-write-tests Inv-loop μ-loop
 array-write-tests c = search needs
 
--- src/swap.rt:36:9
 add-n : tie.Need-add-n Inv-loop μ-loop
 add-n c = omega arith
 
--- src/swap.rt:34:5
 loop-less : tie.Need-loop-less Inv-loop μ-loop
 loop-less c = omega arith
 
--- src/swap.rt:34:5
 loop-again : tie.Need-loop-again Inv-loop μ-loop
 loop-again c = fill-more _ _ _ _ (c .before .before .before .loop-test .taken) (c .before .before .before .before .loop .inv) (c .swap-test .ensures)
 
--- src/swap.rt:28:1
 returns : tie.Need-returns Inv-loop μ-loop
 returns c = fill-end _ _ _ (c .loop-test .left) (c .before .loop .inv)
 
