@@ -1,0 +1,87 @@
+/* The replay of document 01, written a second time: from the documents alone, so that it can be compared with the proved one.
+ *
+ *   checks.c    what is refused, and in which order
+ *   machine.c   the functional models of documents 000 to 004, an instruction at a time
+ *   listing.c   listings read and written, and the report
+ *   cases.c     cases made from a seed, as tests/CASES.md describes
+ *   coverage.c  what a set of cases met
+ *   selftest.c  document 01's examples
+ *   main.c      the commands
+ */
+#ifndef INDEPENDENT_H
+#define INDEPENDENT_H
+
+#include <stdbool.h>
+#include <stddef.h>
+#include <stdint.h>
+#include <stdio.h>
+
+enum { LANES = 32, SLOTS = 24, IMAGE_WORDS = 768, DST_CELLS = 16384, MAX_INSNS = 1024, TEXT_LIMIT = 65536 };
+
+enum { LOAD = 1, LOADI, LUT, SWAP, CONFIG, IADD, ABS, AND, OR, XOR, NOT, LZ, EXEXP, EXMAN, NOP };
+
+/* The six words of an instruction, and the eight settings in the listing's order. */
+enum { F_OP, F_IMM, F_VB, F_VC, F_VD, F_MOD };
+enum { S_EDITION, S_SRCB, S_OFFSET, S_CURSOR, S_STRIDE0 };
+
+/* A lane's 24 words; in the image, slot s of lane l is word 32 s + l. Registers 11 to 14 are slots 8 to 11. */
+enum { SLOT_R11 = 8, SLOT_CONFIG = 12, SLOT_FLAG, SLOT_USE, SLOT_TEMPLATE, SLOT_SEQUENCE = 19, SLOT_MISC = 23 };
+
+/* An outcome: the first four of a run, all five of reading and writing. */
+enum { O_ANSWER, O_STEPS, O_PLACE, O_CURSOR, O_LENGTH };
+
+/* checks.c */
+bool ind_settings_good(const uint32_t settings[8]);
+bool ind_slot_good(unsigned slot, uint32_t word);
+uint32_t ind_insn_fault(const uint32_t insn[6]);                                    /* 0, 7, 8 or 9 */
+uint32_t ind_list_fault(const uint32_t *list, size_t count, uint32_t *place);       /* the first faulty instruction decides */
+
+/* machine.c */
+uint32_t ind_run(const uint32_t settings[8], uint32_t *image, size_t image_len, const uint16_t *dst, size_t dst_len,
+                 const uint32_t *list, size_t list_len, uint32_t outcome[4]);
+uint32_t ind_lane(const uint32_t settings[8], uint32_t lane, const uint32_t insn[6], uint32_t own[24], const uint32_t head[24],
+                  uint16_t even, uint16_t odd);
+
+/* listing.c */
+extern const char *const ind_names[16];
+uint32_t ind_read(const uint8_t *text, size_t text_len, uint32_t *list, size_t list_len, uint32_t settings[8], uint32_t outcome[5]);
+uint32_t ind_write(const uint32_t settings[8], const uint32_t *list, size_t list_len, uint8_t *text, size_t text_len, uint32_t outcome[5]);
+void ind_replay(FILE *in, FILE *out);
+
+/* cases.c: the largest sizes a case can have are in tests/CASES.md. */
+enum { ROOM_IMAGE = 1024, ROOM_DST = 16400, ROOM_LIST = 6200, ROOM_TEXT = 65700 };
+
+struct run_case {
+    uint32_t settings[8], list[ROOM_LIST], image[ROOM_IMAGE];
+    uint16_t dst[ROOM_DST];
+    size_t count, list_len, image_len, dst_len;     /* count: instructions made, before any damage to list_len */
+    char damage[256];                               /* for people, never printed by `cases` */
+};
+
+struct lane_case {
+    uint32_t settings[8], lane, insn[6], own[SLOTS], head[SLOTS];
+    uint16_t even, odd;
+};
+
+struct listing_case {
+    uint32_t settings[8], list[ROOM_LIST];
+    size_t count, list_len;
+    size_t write_room, read_room;
+    uint32_t wrote[5], write_sum;                   /* the writer's outcome and its room afterwards */
+    uint8_t text[ROOM_TEXT];
+    size_t text_len;                                /* the text after its damage */
+    uint32_t read[5], read_settings[8], read_list[ROOM_LIST], read_sum;
+    uint32_t again_sum;                             /* what was read, written again; only where read[0] is 0 */
+};
+
+void ind_make_run(uint32_t seed, uint32_t k, struct run_case *c);
+void ind_make_lane(uint32_t seed, uint32_t k, struct lane_case *c);
+void ind_do_listing(uint32_t seed, uint32_t k, struct listing_case *c);
+uint32_t ind_checksum(const uint32_t *words, size_t len);
+void ind_cases(uint32_t seed, uint32_t runs, uint32_t lanes, uint32_t listings, FILE *out);
+
+/* coverage.c, selftest.c */
+void ind_coverage(uint32_t seed, uint32_t runs, uint32_t lanes, uint32_t listings, FILE *out);
+int ind_selftest(void);
+
+#endif
