@@ -9,3 +9,6 @@ pub mod Swaps
 pub mod LutConfig
 pub mod Steps
 pub mod Views
+pub mod Kept
+pub mod Isolation
+pub mod Runs
