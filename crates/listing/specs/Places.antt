@@ -1,0 +1,59 @@
+-- How the code says what a scan finds and what a render writes: forms as byte strings, positions in a text, lists that grow in lent room.
+use Prim.Native.Nat.{ℕ, zero, suc, _+_, _-_, _≤_}
+use mathlib.Core.Path.{_≡_}
+use mathlib.Core.Bool.{_&&_}
+use mathlib.Core.List.{List, [], _∷_, _++_, map}
+use lib.ListN.{length, take, drop}
+use lib.Dec.{ltb, leb, eqb}
+use Rattle.lane.specs.Words.{pick}
+use Rattle.listing.specs.declared.Got.{Got}
+use Rattle.listing.specs.declared.Cursor.{Cursor}
+use Rattle.listing.specs.Forms.{Item, lit, dec, hex, name, Form, Scan, taken, faulty, takes}
+
+-- A byte of a form: below 10 that many decimal digits, 14 an op name, 16 to 24 up to eight hexadecimal digits, any other itself.
+unfoldable pub itemOf : ℕ → Item
+itemOf x = pick (ltb x 10) (dec x) (pick (eqb x 14) name (pick (ltb x 16) (lit x) (pick (leb x 24) (hex (x - 16)) (lit x))))
+
+unfoldable pub formOf : List ℕ → Form
+formOf bs = map itemOf bs
+
+-- The most bytes that an item can be rendered to, and a form.
+unfoldable pub widestItem : Item → ℕ
+widestItem (lit c) = 1
+widestItem (dec w) = w
+widestItem (hex w) = w
+widestItem name = 7
+
+unfoldable pub widest : Form → ℕ
+widest [] = 0
+widest (i ∷ f) = widestItem i + widest f
+
+-- How many numbers a form takes.
+unfoldable pub numbers : Form → ℕ
+numbers [] = 0
+numbers (i ∷ f) = takes i + numbers f
+
+-- The first n of `after` are the first p of `before`, and then xs.
+pub record Grown (p n : ℕ) (before after xs : List ℕ) : Type 0 where
+  pub front : take n after ≡ take p before ++ xs
+  pub upTo : n ≡ p + length xs
+
+-- An item was scanned in a text, up to a position.
+pub record Gets (s : Scan) (t : List ℕ) (g : Got) : Type 0 where
+  pub scanned : s ≡ pick (g .good) (taken (take (g .count) (g .value ∷ [])) (drop (g .at) t)) (faulty 0)
+  pub within : g .at ≤ length t
+  pub one : g .count ≤ 1
+
+-- A form was scanned, up to a position; its numbers, or those before its first fault, went into lent room from p on. It has at most `most`
+-- lines.
+pub record Scans (s : Scan) (t : List ℕ) (p most : ℕ) (before after : List ℕ) (r : Cursor) : Type 0 where
+  pub ns : List ℕ
+  pub scanned : s ≡ pick (r .good) (taken ns (drop (r .at) t)) (faulty (r .lines))
+  pub grown : Grown p (r .n) before after ns
+  pub within : r .at ≤ length t
+  pub few : r .lines ≤ most
+
+-- Bytes were written into lent room from p on, no more than a form can need.
+pub record Renders (bs : List ℕ) (p most : ℕ) (before after : List ℕ) (r : ℕ) : Type 0 where
+  pub grown : Grown p r before after bs
+  pub within : r ≤ p + most

@@ -1,0 +1,55 @@
+// Listings: text in and out, and the report.
+//
+// Everything public is total: it has a promise and no `requires`. The promises cite specs/, which renders document 01.
+
+// One scan and one render over all forms.
+mod forms;
+// Text to settings and list.
+pub mod reader;
+// Settings and list to text.
+pub mod writer;
+// What the program prints.
+pub mod report;
+// A listing in, a report out: the program.
+pub mod program;
+
+// What a reading returns: the settings, the outcome, and how many words of the lent room the list takes.
+pub struct Reading {
+    pub settings: lane::Settings,
+    pub answer: u32,
+    pub steps: u32,
+    pub place: u32,
+    pub cursor: u32,
+    pub length: usize,
+}
+
+// What a writing returns: the outcome, and how many bytes of the lent room the listing takes.
+pub struct Writing {
+    pub answer: u32,
+    pub steps: u32,
+    pub place: u32,
+    pub cursor: u32,
+    pub length: usize,
+}
+
+// An item scanned in a text: whether it is there, the position after it, and its number, if it has one.
+struct Got {
+    good: bool,
+    at: usize,
+    count: usize,
+    value: u32,
+}
+
+// A form scanned in a text: whether it is there, the position after it, the lines passed, and where the numbers in lent room end.
+struct Cursor {
+    good: bool,
+    at: usize,
+    lines: u32,
+    n: usize,
+}
+
+// The listing's forms, by the rule of `forms`.
+const HEADER: [u8; 83] =
+    *b"edition=\x01\nsrcb=\x01\noffset=\x04\ncursor=\x04\nstride0=\x04\nstride1=\x04\nstride2=\x04\nstride3=\x04\ncount=\x04\n";
+
+const LINE: [u8; 31] = *b"op=\x0Eimm=\x05 vb=\x02 vc=\x02 vd=\x02 mod=\x02\n";
