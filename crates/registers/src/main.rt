@@ -1,7 +1,8 @@
 // A host's use of the register view: it writes a lane of a stored register in its own image and reads it back, and is handed an empty
 // part for a register that is never stored.
 use libc::STDOUT_FILENO;
-use runner::view::{register_lanes, register_lanes_mut};
+use runner::view::register_lanes;
+use runner::view::register_lanes_mut;
 
 // Writes a word to a lane of a register, where the view has that lane.
 fn put(image: &mut [u32], r: u32, lane: usize, word: u32) {

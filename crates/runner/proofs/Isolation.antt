@@ -83,7 +83,7 @@ unfolding steps stepped
 cursor-same s list a b d e zero = refl
 cursor-same s list a b d e (suc n) = ap (λ (x : ℕ). cursorAfter s (insnAt list n) x) (cursor-same s list a b d e n)
 
-length-steps : (s : Settings) (list : List ℕ) (n : ℕ) (m : Machine) → length (m .image) ≡ 768 → length (steps s list n m .image) ≡ 768
+pub length-steps : (s : Settings) (list : List ℕ) (n : ℕ) (m : Machine) → length (m .image) ≡ 768 → length (steps s list n m .image) ≡ 768
 unfolding steps stepped
 length-steps s list zero m h = h
 length-steps s list (suc n) m h =

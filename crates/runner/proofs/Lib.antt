@@ -12,3 +12,4 @@ pub mod Views
 pub mod Kept
 pub mod Isolation
 pub mod Runs
+pub mod Cut

@@ -63,7 +63,7 @@ module _ (s : Settings) (image dst list : List ℕ) where
 -- ---- a run can be cut
 
 -- the same settings with another cursor
-pub withCursor : ℕ → Settings → Settings
+unfoldable pub withCursor : ℕ → Settings → Settings
 withCursor k s =
     record {
       edition = s .edition;
@@ -88,7 +88,7 @@ steps-cursor k s list (suc n) m =
     ap (λ (x : Machine). stepped (withCursor k s) (insnAt list n) x) (steps-cursor k s list n m) ∙ step-cursor k s (insnAt list n) (steps s list n m)
 
 -- the instructions of a joined list
-insn-first : (a b : List ℕ) (k : ℕ) → 6 * k + 5 < length a → insnAt (a ++ b) k ≡ insnAt a k
+pub insn-first : (a b : List ℕ) (k : ℕ) → 6 * k + 5 < length a → insnAt (a ++ b) k ≡ insnAt a k
 unfolding insnAt
 insn-first a b k h =
     λ i.
@@ -104,7 +104,7 @@ insn-first a b k h =
 word-second : (a b : List ℕ) (j k : ℕ) → k ≡ length a + j → getD (a ++ b) k 0 ≡ getD b j 0
 word-second a b j k e = ap (λ (x : ℕ). getD (a ++ b) x 0) e ∙ getD-append-add a b j 0
 
-insn-second : (a b : List ℕ) (k : ℕ) → length a % 6 ≡ 0 → insnAt (a ++ b) (length a / 6 + k) ≡ insnAt b k
+pub insn-second : (a b : List ℕ) (k : ℕ) → length a % 6 ≡ 0 → insnAt (a ++ b) (length a / 6 + k) ≡ insnAt b k
 unfolding insnAt
 insn-second a b k h =
     λ i.

@@ -135,7 +135,7 @@ reached-more s list dst start k cursor image i cursor′ image′ d h e p q =
 
 -- ---- the checks
 
-onward : (t : Bool) (x : Found) (n p : ℕ) → pick t x (found (n + 1) p) .answer ≡ 0 → (t ≡ true) × (x .answer ≡ 0)
+pub onward : (t : Bool) (x : Found) (n p : ℕ) → pick t x (found (n + 1) p) .answer ≡ 0 → (t ≡ true) × (x .answer ≡ 0)
 unfolding pick
 onward true x n p h = (refl, h)
 onward false x n p h = absurd (none n h)
