@@ -1,34 +1,35 @@
--- The tables of fields: an op past their end has no field that is good. Assumes nothing.
-use mathlib.Core.Path.{_≡_, refl, sym, _∙_, ap}
-use Prim.Native.Nat.{ℕ, _≤_, _/_, _%_, _^_}
-use native.Mathlib.Nat.{zero-div}
-use mathlib.Core.Bool.{Bool, true, false, _&&_}
+-- The table of fields: a number that is no op has no row. Assumes nothing.
+use mathlib.Core.Path.{_≡_, refl, sym, ap, _∙_}
+use Prim.Native.Nat.{ℕ, _+_, _≤_, _<_}
+use native.Mathlib.Decide.{decLe}
+use native.Mathlib.Nat.{lt-of-not-le}
+use native.Mathlib.Omega.{arith}
 use lib.ListN.{getD, List·getD-eq-default}
-use lib.Dec.{ltb, eqb}
-use Rattle.lane.specs.declared.Insn.{Insn}
-use Rattle.lane.specs.Refusals.{modsAllowed, modIn, fieldsGood, within, immLimits, vbLimits, vcLimits, vdLimits, vbTied}
+use Rattle.lane.specs.declared.Limits.{Limits}
+use Rattle.lane.specs.Refusals.{immLimits, vbLimits, vcLimits, vdLimits, modsAllowed, limits, limitsOf}
 
-and-false : (t : Bool) → (t && false) ≡ false
-and-false true = refl
-and-false false = refl
+past : (op : ℕ) → 16 ≤ op → limits 0 0 0 0 0 ≡ limitsOf op
+unfolding limitsOf
+past op h =
+    λ i.
+    record {
+      imm = sym (List·getD-eq-default immLimits 0 h) i;
+      vb = sym (List·getD-eq-default vbLimits 0 h) i;
+      vc = sym (List·getD-eq-default vcLimits 0 h) i;
+      vd = sym (List·getD-eq-default vdLimits 0 h) i;
+      mods = sym (List·getD-eq-default modsAllowed 0 h) i;
+    }
 
-no-mod : (m : ℕ) → modIn 0 m ≡ false
-no-mod m = ap (λ (k : ℕ). ltb m 16 && eqb (k % 2) 1) (zero-div (2 ^ m)) ∙ and-false (ltb m 16)
+none : (op : ℕ) → op ≡ 0 → limits 0 0 0 0 0 ≡ limitsOf op
+unfolding limitsOf
+none op e = ap limitsOf (sym e)
 
-pub no-fields : (op : ℕ) (i : Insn) → 16 ≤ op → false ≡ fieldsGood op i
-unfolding fieldsGood
-no-fields op i h =
-    sym
-    (ap
-    (λ (k : ℕ).
-    within immLimits op (i .imm) && within vbLimits op (i .vb) && within vcLimits op (i .vc) && within vdLimits op (i .vd)
-    && modIn k (i .md)
-    && vbTied op (i .vb) (i .md))
-    (List·getD-eq-default modsAllowed 0 h)
-    ∙ ap
-    (λ (t : Bool).
-    within immLimits op (i .imm) && within vbLimits op (i .vb) && within vcLimits op (i .vc) && within vdLimits op (i .vd) && t
-    && vbTied op (i .vb) (i .md))
-    (no-mod (i .md))
-    ∙ ap (λ (t : Bool). t && vbTied op (i .vb) (i .md))
-    (and-false (within immLimits op (i .imm) && within vbLimits op (i .vb) && within vcLimits op (i .vc) && within vdLimits op (i .vd))))
+pub no-row : (op : ℕ) → (op < 16 → op ≡ 0) → limits 0 0 0 0 0 ≡ limitsOf op
+no-row op h = elim (decLe 16 op) [ yes k ↦ past op k | no k ↦ none op (h (lt-of-not-le k)) ]
+
+-- one number after the other is none of them
+pub less : (n op : ℕ) → op < n + 1 → (op ≡ n → ⊥) → op < n
+less n op h k = omega arith
+
+pub least : (op : ℕ) → op < 1 → op ≡ 0
+least op h = omega arith

@@ -6,6 +6,7 @@ use lib.ListN.{getD}
 use lib.Dec.{ltb, leb, eqb}
 use Rattle.lane.specs.declared.Settings.{Settings}
 use Rattle.lane.specs.declared.Insn.{Insn}
+use Rattle.lane.specs.declared.Limits.{Limits}
 use Rattle.lane.specs.declared.Stepped.{Stepped}
 use Rattle.lane.specs.Words.{pick, bit, Lane, laneConfig, laneFlag, useFlag, misc, laneOf, wordsAfter}
 use Rattle.lane.specs.Load.{address}
@@ -50,6 +51,14 @@ modsAllowed =
     0 ∷ 0xFFFF ∷ 0x0500 ∷ 0x1111 ∷ 0xFFFF ∷ 0xFFFF ∷ 0xFFFF ∷ 0x0003 ∷ 0x0003 ∷ 0x0003 ∷ 0x0001 ∷ 0x0001 ∷ 0x5555 ∷ 0x0F0F ∷ 0x0003
     ∷ 0x0001
     ∷ []
+
+-- A row of those tables.
+abbrev pub limits : ℕ → ℕ → ℕ → ℕ → ℕ → Limits
+limits imm vb vc vd mods = record { imm = imm; vb = vb; vc = vc; vd = vd; mods = mods }
+
+unfoldable pub limitsOf : ℕ → Limits
+limitsOf op =
+    limits (getD immLimits op 0) (getD vbLimits op 0) (getD vcLimits op 0) (getD vdLimits op 0) (getD modsAllowed op 0)
 
 -- A field of op within its limit.
 abbrev pub within : List ℕ → ℕ → ℕ → Bool

@@ -41,6 +41,15 @@ pub struct Insn {
     pub md: u32,
 }
 
+// What an op's fields may hold: the largest number for each, and the mods allowed, mod m as bit m.
+pub struct Limits {
+    pub imm: u32,
+    pub vb: u32,
+    pub vc: u32,
+    pub vd: u32,
+    pub mods: u32,
+}
+
 // What the lane rules answer: a number of the clerk's, and the lane's words afterwards.
 pub struct Stepped {
     pub answer: u32,

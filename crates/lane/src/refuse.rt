@@ -1,36 +1,14 @@
 // The refusals 3, 6, 7, 8 and 9.
 use crate::Insn;
+use crate::Limits;
 use crate::Settings;
+use crate::words::LANE_CONFIG;
+use crate::words::LANE_FLAG;
+use crate::words::MISC;
+use crate::words::USE_FLAG;
 ghost use mathlib.Core.Path.{_≡_};
+ghost use Rattle.lane.specs.Words.{laneOf};
 ghost use Rattle.lane.specs.Refusals as Refusals;
-
-// For each op, from op 0, which is none: the largest number that a field may hold, and the mods allowed, mod m as bit m.
-pub const IMM_LIMITS: [u32; 16] = [0, 1023, 65535, 0, 0, 65535, 4095, 0, 0, 0, 0, 0, 0, 0, 0, 0];
-
-pub const VB_LIMITS: [u32; 16] = [0, 3, 0, 0, 0, 0, 0, 0, 15, 15, 0, 0, 0, 0, 0, 0];
-
-pub const VC_LIMITS: [u32; 16] = [0, 0, 0, 0, 15, 0, 15, 15, 15, 15, 15, 15, 15, 15, 15, 0];
-
-pub const VD_LIMITS: [u32; 16] = [0, 15, 15, 15, 15, 15, 15, 15, 15, 15, 15, 15, 15, 15, 15, 0];
-
-pub const MODS_ALLOWED: [u32; 16] = [
-    0,
-    0xFFFF,
-    0x0500,
-    0x1111,
-    0xFFFF,
-    0xFFFF,
-    0xFFFF,
-    0x0003,
-    0x0003,
-    0x0003,
-    0x0001,
-    0x0001,
-    0x5555,
-    0x0F0F,
-    0x0003,
-    0x0001,
-];
 
 // Whether every setting is in its range.
 pub fn settings_good(s: Settings) -> bool
@@ -60,22 +38,69 @@ pub fn mod_allowed(mask: u32, m: u32) -> bool
     if m < 16 { (mask >> m) % 2 == 1 } else { false }
 }
 
-// Whether every field is in its range, for an op whose number is known.
+// A row of the table of fields.
+fn row(imm: u32, vb: u32, vc: u32, vd: u32, mods: u32) -> Limits
+    ensures { λ r. ⌜ r ≡ Refusals.limits imm vb vc vd mods ⌝ }
+{
+    Limits {
+        imm,
+        vb,
+        vc,
+        vd,
+        mods,
+    }
+}
+
+// The table of fields: for each op the largest imm, vb, vc and vd, and the mods allowed, mod m as bit m. A number that is no op has none.
+pub fn limits_of(op: u32) -> Limits
+    ensures { λ r. ⌜ r ≡ Refusals.limitsOf op ⌝ }
+{
+    match op {
+        // LOAD
+        1 => row(1023, 3, 0, 15, 0xFFFF),
+        // LOADI
+        2 => row(65535, 0, 0, 15, 0x0500),
+        // LUT
+        3 => row(0, 0, 0, 15, 0x1111),
+        // SWAP
+        4 => row(0, 0, 15, 15, 0xFFFF),
+        // CONFIG
+        5 => row(65535, 0, 0, 15, 0xFFFF),
+        // IADD
+        6 => row(4095, 0, 15, 15, 0xFFFF),
+        // ABS
+        7 => row(0, 0, 15, 15, 0x0003),
+        // AND
+        8 => row(0, 15, 15, 15, 0x0003),
+        // OR
+        9 => row(0, 15, 15, 15, 0x0003),
+        // XOR
+        10 => row(0, 0, 15, 15, 0x0001),
+        // NOT
+        11 => row(0, 0, 15, 15, 0x0001),
+        // LZ
+        12 => row(0, 0, 15, 15, 0x5555),
+        // EXEXP
+        13 => row(0, 0, 15, 15, 0x0F0F),
+        // EXMAN
+        14 => row(0, 0, 15, 15, 0x0003),
+        // NOP
+        15 => row(0, 0, 0, 0, 0x0001),
+        _ => row(0, 0, 0, 0, 0),
+    }
+}
+
+// Whether every field is in its range.
 pub fn fields_good(i: Insn) -> bool
     ensures { λ r. ⌜ r ≡ Refusals.fieldsGood (i .op) i ⌝ }
 {
-    let op = i.op;
-    if op < 16 {
-        let at = op as usize;
-        (i.imm <= IMM_LIMITS[at])
-            & (i.vb <= VB_LIMITS[at])
-            & (i.vc <= VC_LIMITS[at])
-            & (i.vd <= VD_LIMITS[at])
-            & mod_allowed(MODS_ALLOWED[at], i.md)
-            & ((i.vb == 0) | !((op == 8) | (op == 9)) | (i.md == 1))
-    } else {
-        false
-    }
+    let limits = limits_of(i.op);
+    (i.imm <= limits.imm)
+        & (i.vb <= limits.vb)
+        & (i.vc <= limits.vc)
+        & (i.vd <= limits.vd)
+        & mod_allowed(limits.mods, i.md)
+        & ((i.vb == 0) | !((i.op == 8) | (i.op == 9)) | (i.md == 1))
 }
 
 // 7, 8, 9 or 0 for an instruction; `also` is what 8 asks besides the fields.
@@ -93,5 +118,28 @@ pub fn instruction_answer(also: bool, i: Insn) -> u32
         }
     } else {
         7
+    }
+}
+
+// Whether 24 words are a well formed lane.
+fn lane_good(own: [u32; 24]) -> bool
+    ensures { λ r. ⌜ r ≡ Refusals.wellFormed (laneOf own) ⌝ }
+{
+    well_formed(own[LANE_CONFIG], own[LANE_FLAG], own[USE_FLAG], own[MISC])
+}
+
+// The refusals of the lane rules: 3, 6, 7, 8 and 9, or 0.
+pub fn lane_answer(s: Settings, lane: u32, i: Insn, own: [u32; 24], head: [u32; 24]) -> u32
+    ensures { λ r. ⌜ r ≡ Refusals.laneAnswer s lane i (laneOf own) (laneOf head) ⌝ }
+{
+    if settings_good(s) {
+        let good = lane_good(own) & lane_good(head);
+        if good {
+            instruction_answer(lane <= 31, i)
+        } else {
+            6
+        }
+    } else {
+        3
     }
 }

@@ -27,9 +27,7 @@ use crate::lut::lut_answer;
 use crate::lut::lut_register;
 use crate::lut::lut_result;
 use crate::lut::lut_word;
-use crate::refuse::instruction_answer;
-use crate::refuse::settings_good;
-use crate::refuse::well_formed;
+use crate::refuse::lane_answer;
 use crate::swap::acts;
 use crate::swap::in_mask;
 use crate::swap::mask_of;
@@ -365,29 +363,6 @@ fn lane_words(
     let a = address(i.imm, s.offset, s.cursor);
     let exchanged = head[LANE_CONFIG] / 32 % 2 == 1;
     lanewise_words(op, s.srcb, a, i, lane, exchanged, even_cell, odd_cell, own)
-}
-
-// Whether 24 words are a well formed lane.
-fn lane_good(own: [u32; 24]) -> bool
-    ensures { λ r. ⌜ r ≡ Refusals.wellFormed (laneOf own) ⌝ }
-{
-    well_formed(own[LANE_CONFIG], own[LANE_FLAG], own[USE_FLAG], own[MISC])
-}
-
-// The refusals of the lane rules: 3, 6, 7, 8 and 9, or 0.
-pub fn lane_answer(s: Settings, lane: u32, i: Insn, own: [u32; 24], head: [u32; 24]) -> u32
-    ensures { λ r. ⌜ r ≡ Refusals.laneAnswer s lane i (laneOf own) (laneOf head) ⌝ }
-{
-    if settings_good(s) {
-        let good = lane_good(own) & lane_good(head);
-        if good {
-            instruction_answer(lane <= 31, i)
-        } else {
-            6
-        }
-    } else {
-        3
-    }
 }
 
 // The lane rules: a refusal with the words as given, or 0 with the words after.

@@ -1,19 +1,19 @@
 -- Digits, over the base and the width: what is written is read back, and what is read is what was written. Assumes nothing.
 use mathlib.Core.Path.{_≡_, refl, sym, ap, _∙_, subst}
-use Prim.Native.Nat.{ℕ, zero, suc, _+_, _-_, _*_, _/_, _%_, _^_, _<_, _≤_}
-use native.Mathlib.Nat.{mod-lt, div-add-mod', div-lt-iff-lt-mul, pow-suc, pow-zero, le-of-lt, le-of-suc-le-suc, eq-or-lt-of-le, not-suc-le-zero, pow-le-pow-right, lt-of-lt-of-le}
+use Prim.Native.Nat.{ℕ, zero, suc, _+_, _-_, _/_, _%_, _^_, _<_, _≤_}
+use native.Mathlib.Nat.{mod-lt, div-add-mod', div-lt-iff-lt-mul, pow-suc, pow-zero, le-of-suc-le-suc, eq-or-lt-of-le, not-suc-le-zero, lt-of-lt-of-le}
 use native.Mathlib.Decide.{decLt}
 use native.Mathlib.Omega.{arith}
 use mathlib.Core.Bool.{Bool, true, false, _&&_, and-false}
 use mathlib.Core.List.{List, [], _∷_, _++_, append-assoc}
-use mathlib.Core.Logic.{_↔_, _⊎_, inl, inr}
-use lib.ListN.{length, getD, take, drop, length-append, List·getD-eq-default}
-use lib.Seq.{getD-at, take-suc, getD-drop}
+use mathlib.Core.Logic.{_⊎_, inl, inr}
+use lib.ListN.{length, getD, take, length-append, List·getD-eq-default}
+use lib.Seq.{getD-at, take-suc}
 use lib.Arith.{digits-lt, digits-div, digits-mod}
-use lib.Dec.{ltb, leb}
+use lib.Dec.{ltb}
 use borrow.Author.Tests.{lt-ltb, le-ltb, le-leb, lt-leb, ltb-true}
 use Rattle.lane.specs.Words.{pick}
-use Rattle.lane.proofs.Cases.{pick-true, pick-false, if-lt, if-ge, if-le, if-gt}
+use Rattle.lane.proofs.Cases.{pick-true, pick-false}
 use Rattle.listing.specs.Forms.{glyph, digit, digits, numeric, number}
 
 -- ---- one digit

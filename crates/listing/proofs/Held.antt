@@ -1,24 +1,23 @@
 -- What a text holds that a reading accepts. Assumes nothing.
-use mathlib.Core.Path.{_≡_, refl, sym, ap, _∙_, subst}
-use Prim.Native.Nat.{ℕ, zero, suc, _+_, _*_, _/_, _<_, _≤_}
+use mathlib.Core.Path.{_≡_, refl, sym, ap, _∙_}
+use Prim.Native.Nat.{ℕ, zero, suc, _+_, _*_, _<_, _≤_}
 use native.Mathlib.Omega.{arith}
 use mathlib.Core.Bool.{Bool, true, false}
 use mathlib.Core.List.{List, [], _∷_, _++_, append-nil}
-use lib.ListN.{length, getD, drop, length-append}
+use lib.ListN.{length, getD, length-append}
 use lib.Seq.{ext-getD}
 use lib.Dec.{eqb, leb}
 use borrow.Author.Tests.{eqb-true, eqb-false, leb-true}
 use Rattle.lane.specs.declared.Settings.{Settings}
 use Rattle.lane.specs.Words.{pick}
-use Rattle.runner.specs.declared.Found.{Found}
 use Rattle.runner.specs.Checks.{countOf, listAnswer}
 use Rattle.listing.specs.Forms.{Scan, taken, faulty, scan, render}
 use Rattle.listing.specs.Places.{numbers, widest}
 use Rattle.listing.specs.Listing.{header, line, lines, headerOf, settingsOf, countIn, listing, Read, refusedReading, refuseRead, acceptedReading, readList, readRest, readHeader, readText}
 use Rattle.listing.proofs.Readers.{header-numbers, line-numbers, read-headed, read-on, read-list-done}
-use Rattle.listing.proofs.Trips.{Whole, scan-whole, scan-render, numbers-append, widest-append}
+use Rattle.listing.proofs.Trips.{scan-whole, scan-render, numbers-append, widest-append}
 use Rattle.listing.proofs.Walks.{render-widest}
-use Rattle.listing.proofs.Writers.{Accepted, accepted, line-widest, header-widest}
+use Rattle.listing.proofs.Writers.{accepted, line-widest, header-widest}
 use Rattle.listing.proofs.Ranges.{list-fits}
 
 -- ---- sizes

@@ -1,11 +1,10 @@
 -- Scans that follow one another. Assumes nothing.
-use mathlib.Core.Path.{_≡_, refl, sym, ap, _∙_, subst}
-use Prim.Native.Nat.{ℕ, zero, suc, _+_, _-_, _<_, _≤_}
+use mathlib.Core.Path.{_≡_, refl, sym, ap, _∙_}
+use Prim.Native.Nat.{ℕ, _+_}
 use native.Mathlib.Nat.{add-zero, zero-add, add-assoc}
 use native.Mathlib.Omega.{arith}
 use mathlib.Core.List.{List, [], _∷_, _++_, append-nil, append-assoc}
-use lib.ListN.{length, take, drop}
-use Rattle.listing.specs.Forms.{Item, lit, dec, hex, name, Form, Scan, taken, faulty, joined, follow, ends, scan, scanItem, takes}
+use Rattle.listing.specs.Forms.{Item, Form, Scan, taken, faulty, joined, follow, ends, scan, scanItem}
 
 pub joined-none : (s : Scan) → joined [] 0 s ≡ s
 unfolding joined
@@ -77,3 +76,8 @@ joined-taken ms k (faulty i) ns t e = absurd (no e)
   where
     no : faulty (k + i) ≡ taken ns t → ⊥
     no q = let z : _≡_ {A = ℕ} 0 1 = cc in omega arith
+
+pub lines-append : (f g : Form) → linesIn (f ++ g) ≡ linesIn f + linesIn g
+unfolding linesIn
+lines-append [] g = sym (zero-add (linesIn g))
+lines-append (i ∷ f) g = ap (λ (k : ℕ). ends i + k) (lines-append f g) ∙ sym (add-assoc (ends i) (linesIn f) (linesIn g))

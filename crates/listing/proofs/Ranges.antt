@@ -1,29 +1,26 @@
 -- A list that is not refused fits the widths of a listing. Assumes nothing.
-use mathlib.Core.Path.{_≡_, refl, sym, ap, _∙_, subst}
-use Prim.Native.Nat.{ℕ, zero, suc, _+_, _-_, _*_, _/_, _%_, _^_, _<_, _≤_}
+use mathlib.Core.Path.{_≡_, refl, _∙_}
+use Prim.Native.Nat.{ℕ, zero, suc, _+_, _*_, _^_, _<_, _≤_}
 use native.Mathlib.Nat.{not-suc-le-zero, eq-or-lt-of-le, le-trans}
 use native.Mathlib.Omega.{arith}
-use native.Mathlib.Numerals.{add-one}
 use mathlib.Core.Bool.{Bool, true, false, _&&_, _||_, not}
-use mathlib.Core.List.{List, [], _∷_, _++_, append-nil, append-assoc, map}
+use mathlib.Core.List.{List, [], _∷_, _++_, map}
 use mathlib.Core.Logic.{_⊎_, inl, inr}
-use lib.ListN.{length, getD, take, drop, length-append, length-drop}
+use lib.ListN.{length, getD, drop, length-append, length-drop}
 use lib.Seq.{drop-append-le, drop-cons}
 use lib.Dec.{eqb, leb, ltb}
-use borrow.Author.Tests.{eq-eqb, ne-eqb, eqb-true, eqb-false, leb-true, ltb-true}
+use borrow.Author.Tests.{eqb-true, eqb-false, leb-true, ltb-true}
 use Rattle.lane.specs.declared.Settings.{Settings}
 use Rattle.lane.specs.declared.Insn.{Insn}
 use Rattle.lane.specs.Words.{pick}
 use Rattle.lane.specs.Refusals.{pass, instructionAnswer, settingsGood, opKnown, fieldsGood, wideLoad, immLimits, vbLimits, vcLimits, vdLimits}
-use Rattle.lane.proofs.Cases.{pick-true, pick-false}
-use Rattle.runner.specs.declared.Found.{Found}
-use Rattle.runner.specs.Checks.{insnAt, countOf, found, scan as scanInsns, scanned, listAnswer}
+use Rattle.runner.specs.Checks.{insnAt, countOf, found, scan as scanInsns, listAnswer}
 use Rattle.listing.specs.Forms.{Item, lit, dec, hex, name, Form, literal, takes}
-use Rattle.listing.specs.Listing.{header, line, lines, headerOf, numberLine}
+use Rattle.listing.specs.Listing.{header, line, lines, headerOf}
 use Rattle.listing.proofs.Digits.{both}
 use Rattle.listing.proofs.Names.{every, every-at}
 use Rattle.listing.proofs.Trips.{Fit, Fits}
-use Rattle.listing.proofs.Writers.{Accepted, accepted}
+use Rattle.listing.proofs.Writers.{accepted}
 
 -- ---- forms
 

@@ -1,13 +1,12 @@
 -- The reader: its forms as byte strings, the loop over instruction lines, and what each return says. Assumes nothing.
-use mathlib.Core.Path.{_≡_, refl, sym, ap, _∙_, subst}
-use Prim.Native.Nat.{ℕ, zero, suc, _+_, _-_, _*_, _<_, _≤_}
+use mathlib.Core.Path.{_≡_, refl, sym, ap, _∙_}
+use Prim.Native.Nat.{ℕ, suc, _+_, _-_, _*_, _<_, _≤_}
 use native.Mathlib.Nat.{sub-zero}
 use native.Mathlib.Omega.{arith}
-use mathlib.Core.Bool.{Bool, true, false}
-use mathlib.Core.List.{List, [], _∷_, _++_, append-nil, append-assoc, map}
-use lib.ListN.{length, getD, take, drop, length-take, length-drop}
-use lib.Seq.{getD-take, take-length}
-use lib.Dec.{eqb, leb}
+use mathlib.Core.Bool.{true, false}
+use mathlib.Core.List.{List, [], _++_}
+use lib.ListN.{length, take, drop}
+use lib.Seq.{getD-take}
 use borrow.Author.Tests.{eq-eqb, ne-eqb, le-leb, lt-leb}
 use Rattle.lane.specs.declared.Settings.{Settings}
 use Rattle.lane.specs.Words.{pick}
@@ -15,10 +14,9 @@ use Rattle.lane.proofs.Cases.{pick-true, pick-false}
 use Rattle.runner.specs.declared.Found.{Found}
 use Rattle.runner.specs.Checks.{listAnswer}
 use Rattle.listing.specs.declared.Cursor.{Cursor}
-use Rattle.listing.specs.declared.Reading.{Reading}
-use Rattle.listing.specs.Forms.{Form, Scan, taken, faulty, joined, ends, scan, takes, spell, bytes, literal}
-use Rattle.listing.specs.Places.{itemOf, formOf, numbers, widest, widestItem, Grown, Scans}
-use Rattle.listing.specs.Listing.{header, line, lines, settingsOf, countIn, inFront, Read, refusedReading, refuseRead, acceptedReading, readList, readRest, readHeader, readText}
+use Rattle.listing.specs.Forms.{Scan, taken, faulty, joined, ends, scan, takes, spell, bytes, literal}
+use Rattle.listing.specs.Places.{itemOf, formOf, numbers, Grown, Scans}
+use Rattle.listing.specs.Listing.{header, line, lines, settingsOf, countIn, refuseRead, acceptedReading, readList, readRest, readHeader, readText}
 use Rattle.listing.proofs.Joins.{joined-none, joined-joined, joined-end, linesIn, scan-then, scan-not}
 use Rattle.listing.proofs.Rooms.{grown-none, grown-more}
 use Rattle.listing.proofs.Trips.{scan-whole}
@@ -95,7 +93,7 @@ module _ (t : List ℕ) (from count : ℕ) (before : List ℕ) where
     lining-room h k l = rw (s .lined, line-numbers) (omega (arith, s .six, s .same))
 
     module _ (c : Cursor) (after : List ℕ) (l : i < count)
-        (e : Scans (scan (formOf form) (drop at t)) t n (length form) words after c) where
+        (e : Scans (scan (formOf form) (drop at t)) t n (10 + i) (length form) words after c) where
       pub lining-more : c .good ≡ true → length after ≡ length words → Lining form after (c .at) (c .n) (i + 1)
       lining-more b k =
           let q : scan line (drop at t) ≡ taken (e .ns) (drop (c .at) t) = rw (s .lined) at (e .scanned ∙ pick-true _ _ _ b) in
@@ -117,21 +115,25 @@ module _ (t : List ℕ) (from count : ℕ) (before : List ℕ) where
           }
 
       pub lining-stop : c .good ≡ false → count ≤ 1024
-          → Scans (scan (lines count) (drop from t)) t 0 2048 before after
-          (record { good = false; at = c .at; lines = i + c .lines; n = c .n })
+          → Scans (scan (lines count) (drop from t)) t 0 10 2048 before after
+          (record { good = false; at = c .at; line = c .line; n = c .n })
       unfolding pick joined
       lining-stop b h =
-          let q : scan line (drop at t) ≡ faulty (c .lines) = rw (s .lined) at (e .scanned ∙ pick-false _ _ _ b) in
+          let q : scan line (drop at t) ≡ faulty (c .line - (10 + i)) = rw (s .lined) at (e .scanned ∙ pick-false _ _ _ b) in
+          let k : i + (c .line - (10 + i)) ≡ c .line - 10 = omega (arith, e .onward) in
           record {
             ns = s .ns ++ e .ns;
-            scanned = s .goes ∙ rw (lines-more count i l, scan-not line (lines (count - (i + 1))) (drop at t) (c .lines) q);
+            scanned =
+                s .goes
+                ∙ rw (lines-more count i l, scan-not line (lines (count - (i + 1))) (drop at t) (c .line - (10 + i)) q) (ap faulty k);
             grown = grown-more 0 n before words (s .ns) (s .grown) (c .n) after (e .ns) (e .grown);
             within = e .within;
+            onward = omega (arith, e .onward);
             few = omega (arith, e .few, s .short);
           }
 
     pub lining-end : count ≤ i → count ≤ 1024
-        → Scans (scan (lines count) (drop from t)) t 0 2048 before words (record { good = true; at = at; lines = i; n = n })
+        → Scans (scan (lines count) (drop from t)) t 0 10 2048 before words (record { good = true; at = at; line = 10 + i; n = n })
     unfolding pick lines scan
     lining-end l h =
         let e : count - i ≡ 0 = omega arith in
@@ -140,6 +142,7 @@ module _ (t : List ℕ) (from count : ℕ) (before : List ℕ) where
           scanned = s .goes ∙ rw e (joined-end (s .ns) i (drop at t));
           grown = s .grown;
           within = s .within;
+          onward = omega arith;
           few = omega (arith, s .upTo);
         }
 

@@ -4,14 +4,14 @@ use Prim.Native.Nat.{ℕ, zero, suc, _+_, _-_, _*_, _/_, _%_, _^_, _<_, _≤_}
 use native.Mathlib.Nat.{not-suc-le-zero}
 use native.Mathlib.Numerals.{add-one}
 use native.Mathlib.Omega.{arith}
-use mathlib.Core.Bool.{Bool, true, false}
-use mathlib.Core.List.{List, [], _∷_, _++_, append-nil, append-assoc}
-use lib.ListN.{length, getD, take, drop}
-use lib.Dec.{eqb, leb, ltb}
+use mathlib.Core.Bool.{true}
+use mathlib.Core.List.{List, [], _∷_, _++_, append-nil}
+use lib.ListN.{length, getD, drop}
+use lib.Dec.{eqb}
 use borrow.Author.Tests.{eq-eqb, ne-eqb, le-leb, lt-leb, eqb-true}
 use Rattle.lane.specs.Words.{pick}
 use Rattle.lane.proofs.Cases.{pick-true, pick-false}
-use Rattle.listing.specs.Forms.{Form, lit, dec, hex, render, renderItem, takes, spell, bytes, literal, digits}
+use Rattle.listing.specs.Forms.{Form, dec, render, renderItem, takes, spell, bytes, literal, digits}
 use Rattle.listing.specs.Places.{itemOf, formOf, numbers, widest, widestItem, Grown, Renders}
 use Rattle.listing.specs.Report.{widthIn, widthOf, outcomeForm, outcomeLines, changeForm, registerOf, changeLine, changes, report, reported}
 use Rattle.listing.proofs.Names.{every, every-at}

@@ -1,12 +1,12 @@
 -- Lists that grow in lent room. Assumes nothing.
-use mathlib.Core.Path.{_≡_, refl, sym, ap, _∙_, subst}
+use mathlib.Core.Path.{_≡_, refl, sym, ap, _∙_}
 use Prim.Native.Nat.{ℕ, zero, suc, _+_, _-_, _/_, _%_, _<_, _≤_}
 use native.Mathlib.Numerals.{add-one}
 use native.Mathlib.Nat.{add-zero, zero-add, not-suc-le-zero}
 use native.Mathlib.Omega.{arith}
 use mathlib.Core.List.{List, [], _∷_, _++_, append-nil, append-assoc}
-use lib.ListN.{length, getD, take, drop, set, length-append, length-take, length-drop, take-append-drop}
-use lib.Seq.{paste-suc, take-length, take-suc, take-suc-set, take-set-le, take-take, take-append-le, drop-append-le, take-at, drop-at, length-take-le, drop-set-lt, drop-drop}
+use lib.ListN.{length, getD, take, drop, set, length-append, length-take, length-drop}
+use lib.Seq.{paste-suc, take-length, take-suc, take-suc-set, take-set-le, length-take-le}
 use Rattle.listing.specs.Forms.{glyph, digits, nameOf}
 use Rattle.listing.specs.Places.{Grown}
 

@@ -1,41 +1,39 @@
 -- How the code's walk over positions meets the scan of a text. Assumes nothing.
-use mathlib.Core.Path.{_≡_, refl, sym, ap, _∙_, subst}
-use Prim.Native.Nat.{ℕ, zero, suc, _+_, _-_, _*_, _^_, _<_, _≤_}
-use native.Mathlib.Nat.{pow-suc, pow-le-pow-right, lt-of-lt-of-le}
+use mathlib.Core.Path.{_≡_, refl, sym, ap, _∙_}
+use Prim.Native.Nat.{ℕ, suc, _+_, _*_, _^_, _<_, _≤_}
+use native.Mathlib.Nat.{pow-suc, pow-le-pow-right}
 use native.Mathlib.Numerals.{add-one}
 use native.Mathlib.Decide.{decLt}
 use native.Mathlib.Omega.{arith}
-use mathlib.Core.Bool.{Bool, true, false, _&&_}
+use mathlib.Core.Bool.{true, false}
 use mathlib.Core.List.{List, [], _∷_, _++_}
-use lib.ListN.{length, getD, take, drop, length-append, length-drop, List·getD-eq-default, drop-of-length-le}
+use lib.ListN.{length, getD, drop, length-append, length-drop, List·getD-eq-default, drop-of-length-le}
 use lib.Seq.{drop-cons, drop-drop, getD-drop}
 use lib.Arith.{digits-lt}
-use lib.Dec.{ltb, eqb}
-use borrow.Author.Tests.{eq-eqb, ne-eqb, lt-ltb}
+use borrow.Author.Tests.{eq-eqb, ne-eqb, lt-ltb, eqb-false}
 use Rattle.lane.specs.Words.{pick}
 use Rattle.lane.proofs.Cases.{pick-true, pick-false}
-use Rattle.listing.specs.declared.Got.{Got}
 use Rattle.listing.specs.Forms.{Scan, taken, faulty, digit, numeric, number, nameOf, begins, opOf, scanByte, scanNumber, scanName}
 use Rattle.listing.specs.Places.{Gets}
-use Rattle.listing.proofs.Digits.{both-true, number-small, numeric-length, numeric-stops}
-use Rattle.listing.proofs.Names.{begins-split, opOf-begins, length-name}
+use Rattle.listing.proofs.Digits.{both-true, numeric-length, numeric-stops}
+use Rattle.listing.proofs.Names.{begins-split, opOf-begins}
 
 -- ---- what a return says
 
 pub gets-nothing : (s : Scan) (t : List ℕ) (at : ℕ) → at ≤ length t → s ≡ faulty 0
     → Gets s t (record { good = false; at = at; count = 0; value = 0 })
 unfolding pick
-gets-nothing s t at h e = record { scanned = e; within = h; one = omega arith }
+gets-nothing s t at h e = record { scanned = e; within = h; one = omega arith; idle = λ z. refl }
 
 pub gets-one : (s : Scan) (t : List ℕ) (at v : ℕ) → at ≤ length t → s ≡ taken (v ∷ []) (drop at t)
     → Gets s t (record { good = true; at = at; count = 1; value = v })
 unfolding pick
-gets-one s t at v h e = record { scanned = e; within = h; one = omega arith }
+gets-one s t at v h e = record { scanned = e; within = h; one = omega arith; idle = λ z. absurd (eqb-false 1 0 refl z) }
 
 pub gets-none : (s : Scan) (t : List ℕ) (at : ℕ) → at ≤ length t → s ≡ taken [] (drop at t)
     → Gets s t (record { good = true; at = at; count = 0; value = 0 })
 unfolding pick
-gets-none s t at h e = record { scanned = e; within = h; one = omega arith }
+gets-none s t at h e = record { scanned = e; within = h; one = omega arith; idle = λ z. refl }
 
 -- ---- digits
 

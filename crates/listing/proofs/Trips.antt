@@ -1,10 +1,10 @@
 -- The round trip, over all forms: what is rendered is scanned back, and whatever is scanned is the render of what was scanned. Assumes nothing.
-use mathlib.Core.Path.{_≡_, refl, sym, ap, _∙_, subst}
-use Prim.Native.Nat.{ℕ, zero, suc, _+_, _-_, _*_, _^_, _<_, _≤_}
+use mathlib.Core.Path.{_≡_, refl, sym, ap, _∙_}
+use Prim.Native.Nat.{ℕ, suc, _+_, _^_, _<_, _≤_}
 use native.Mathlib.Omega.{arith}
 use native.Mathlib.Nat.{not-suc-le-zero}
 use mathlib.Core.Bool.{Bool, true, false}
-use mathlib.Core.List.{List, [], _∷_, _++_, append-nil, append-assoc}
+use mathlib.Core.List.{List, [], _∷_, _++_, append-assoc}
 use lib.ListN.{length, getD, take, drop, length-append, take-append-drop}
 use lib.Seq.{drop-at, drop-append-seam, drop-drop}
 use lib.Dec.{eqb}
@@ -100,7 +100,7 @@ zero-one : _≡_ {A = ℕ} 0 1 → ⊥
 zero-one e = omega arith
 
 -- an item looks at the first of its own numbers only
-item-own : (i : Item) (ms ls : List ℕ) → length ms ≡ takes i → renderItem i (getD (ms ++ ls) 0 0) ≡ renderItem i (getD ms 0 0)
+pub item-own : (i : Item) (ms ls : List ℕ) → length ms ≡ takes i → renderItem i (getD (ms ++ ls) 0 0) ≡ renderItem i (getD ms 0 0)
 unfolding takes renderItem
 item-own (lit c) ms ls e = refl
 item-own (dec w) [] ls e = absurd (zero-one e)
@@ -110,7 +110,7 @@ item-own (hex w) (m ∷ ms) ls e = refl
 item-own name [] ls e = absurd (zero-one e)
 item-own name (m ∷ ms) ls e = refl
 
-fit-own : (i : Item) (ms ls : List ℕ) → length ms ≡ takes i → Fit i (getD ms 0 0) → Fit i (getD (ms ++ ls) 0 0)
+pub fit-own : (i : Item) (ms ls : List ℕ) → length ms ≡ takes i → Fit i (getD ms 0 0) → Fit i (getD (ms ++ ls) 0 0)
 unfolding takes Fit
 fit-own (lit c) ms ls e h = tt
 fit-own (dec w) [] ls e h = absurd (zero-one e)
@@ -166,7 +166,7 @@ name-back n u z h =
     let o : opOf 15 (nameOf n ++ u) ≡ n = opOf-name 15 n u z h (omega arith) in
     rw o (pick-false _ _ _ (ne-eqb n 0 (λ e. omega arith)) ∙ cc (drop-append-seam (nameOf n) u))
 
-item-back : (i : Item) (ns u : List ℕ) → takes i ≤ length ns → Fit i (getD ns 0 0)
+pub item-back : (i : Item) (ns u : List ℕ) → takes i ≤ length ns → Fit i (getD ns 0 0)
     → scanItem i (renderItem i (getD ns 0 0) ++ u) ≡ taken (take (takes i) ns) u
 unfolding scanItem renderItem takes Fit scanByte
 item-back (lit c) ns u h f = pick-true _ _ _ (eq-eqb c c refl)
@@ -209,3 +209,10 @@ pub widest-append : (f g : Form) → widest (f ++ g) ≡ widest f + widest g
 unfolding widest
 widest-append [] g = omega arith
 widest-append (i ∷ f) g = omega (arith, widest-append f g)
+
+pub takes-one : (i : Item) → takes i ≤ 1
+unfolding takes
+takes-one (lit x) = omega arith
+takes-one (dec w) = omega arith
+takes-one (hex w) = omega arith
+takes-one name = omega arith

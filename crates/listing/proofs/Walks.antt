@@ -1,74 +1,88 @@
 -- The loops that scan and that render a form: what is known each time their tests are reached. Assumes nothing.
-use mathlib.Core.Path.{_≡_, refl, sym, ap, _∙_, subst}
-use Prim.Native.Nat.{ℕ, zero, suc, _+_, _-_, _<_, _≤_}
+use mathlib.Core.Path.{_≡_, refl, sym, _∙_}
+use Prim.Native.Nat.{ℕ, zero, suc, _+_, _-_, _^_, _<_, _≤_}
 use native.Mathlib.Nat.{add-zero}
 use native.Mathlib.Omega.{arith}
-use mathlib.Core.Bool.{Bool, true, false}
+use mathlib.Core.Bool.{true, false}
 use mathlib.Core.List.{List, [], _∷_, _++_, append-nil, append-assoc}
-use lib.ListN.{length, getD, take, drop, set, length-set, length-append, length-take, drop-of-length-le}
+use lib.ListN.{length, getD, take, drop, set, length-set, length-append, drop-of-length-le}
 use lib.Seq.{getD-drop, drop-drop}
-use lib.Dec.{eqb}
-use mir.Val.{boolByte}
 use Rattle.lane.specs.Words.{pick}
-use Rattle.lane.proofs.Cases.{pick-true, pick-false, byte-small}
-use Rattle.listing.specs.declared.Got.{Got}
-use Rattle.listing.specs.declared.Cursor.{Cursor}
-use Rattle.listing.specs.Forms.{Item, lit, dec, hex, name, render, renderItem, Form, Scan, taken, faulty, joined, ends, scan, scanItem, takes}
+use Rattle.lane.proofs.Cases.{pick-true, pick-false}
+use Rattle.listing.specs.declared.Step.{Step}
+use Rattle.listing.specs.Forms.{Item, lit, dec, hex, name, render, renderItem, Form, taken, joined, ends, scan, scanItem, takes}
 use Rattle.listing.specs.Places.{itemOf, formOf, numbers, widest, widestItem, Grown, Gets, Scans, Renders}
-use Rattle.listing.proofs.Items.{form-cons, ends-byte}
+use Rattle.listing.specs.Held.{stepAt}
+use Rattle.listing.proofs.Items.{form-cons}
+use Rattle.listing.proofs.Lines.{ends-one}
+use Rattle.listing.proofs.Steps.{gotOf, step-gets}
 use Rattle.listing.proofs.Joins.{joined-none, joined-joined, joined-end, joined-fault, scan-item, scan-fault}
 use Rattle.listing.proofs.Rooms.{grown-none, grown-some, grown-more}
 use Rattle.listing.proofs.Digits.{length-digits}
 use Rattle.listing.proofs.Names.{length-names}
-use Rattle.listing.proofs.Trips.{item-taken}
+use Rattle.listing.proofs.Trips.{item-taken, takes-one}
 
-module _ (form t : List ℕ) (from place : ℕ) (before : List ℕ) where
-  pub record Scanning (out : List ℕ) (f at n lines : ℕ) : Type 0 where
+module _ (form t : List ℕ) (from first place : ℕ) (before : List ℕ) where
+  pub record Scanning (out : List ℕ) (f at n line : ℕ) : Type 0 where
     pub ns : List ℕ
-    pub goes : scan (formOf form) (drop from t) ≡ joined ns lines (scan (formOf (drop f form)) (drop at t))
+    pub goes : scan (formOf form) (drop from t) ≡ joined ns (line - first) (scan (formOf (drop f form)) (drop at t))
     pub grown : Grown place n before out ns
     pub same : length out ≡ length before
     pub within : at ≤ length t
     pub inForm : f ≤ length form
-    pub few : lines ≤ f
+    pub onward : first ≤ line
+    pub few : line ≤ first + f
     pub room : n + numbers (formOf (drop f form)) ≤ place + numbers (formOf form)
 
-  pub scanning-start : from ≤ length t → Scanning before 0 from place 0
+  pub scanning-start : from ≤ length t → Scanning before 0 from place first
   scanning-start h =
+      let z : first - first ≡ 0 = omega arith in
       record {
         ns = [];
-        goes = sym (joined-none (scan (formOf form) (drop from t)));
+        goes = rw z (sym (joined-none (scan (formOf form) (drop from t))));
         grown = grown-none place before;
         same = refl;
         within = h;
         inForm = omega arith;
+        onward = omega arith;
         few = omega arith;
         room = omega arith;
       }
 
-  module _ (out : List ℕ) (f at n lines : ℕ) (s : Scanning out f at n lines) where
+  module _ (out : List ℕ) (f at n line : ℕ) (s : Scanning out f at n line) where
     -- an item takes at least as many numbers as are left for it
     pub room-for : f < length form → place + numbers (formOf form) < length before → n < length out
     room-for l h = omega (arith, s .room, s .same)
 
-    module _ (g : Got) (l : f < length form) (e : Gets (scanItem (itemOf (getD form f 0)) (drop at t)) t g) where
-      pub scanning-stop : g .good ≡ false
-          → Scans (scan (formOf form) (drop from t)) t place (length form) before out (record { good = false; at = at; lines = lines; n = n })
+    module _ (st : Step) (l : f < length form) (found : st ≡ stepAt t at line (getD form f 0)) where
+      gets : Gets (scanItem (itemOf (getD form f 0)) (drop at t)) t (gotOf st)
+      gets = step-gets t at line (getD form f 0) (s .within) st found .0
+
+      lined : st .good ≡ true → st .line ≡ line + ends (itemOf (getD form f 0))
+      lined = step-gets t at line (getD form f 0) (s .within) st found .1
+
+      pub count-one : st .count ≤ 1
+      count-one = gets .one
+
+      pub scanning-stop : st .good ≡ false
+          → Scans (scan (formOf form) (drop from t)) t place first (length form) before out
+          (record { good = false; at = at; line = line; n = n })
       unfolding pick
       scanning-stop b =
           record {
             ns = s .ns;
             scanned =
                 s .goes
-                ∙ rw (form-cons form f l, scan-fault _ (formOf (drop (f + 1) form)) (drop at t) 0 (e .scanned ∙ pick-false _ _ _ b))
-                (joined-fault (s .ns) lines);
+                ∙ rw (form-cons form f l, scan-fault _ (formOf (drop (f + 1) form)) (drop at t) 0 (gets .scanned ∙ pick-false _ _ _ b))
+                (joined-fault (s .ns) (line - first));
             grown = s .grown;
             within = s .within;
+            onward = s .onward;
             few = omega (arith, s .few, s .inForm);
           }
 
-      some : g .good ≡ true → scanItem (itemOf (getD form f 0)) (drop at t) ≡ taken (take (g .count) (g .value ∷ [])) (drop (g .at) t)
-      some b = e .scanned ∙ pick-true _ _ _ b
+      some : st .good ≡ true → scanItem (itemOf (getD form f 0)) (drop at t) ≡ taken (take (st .count) (st .value ∷ [])) (drop (st .at) t)
+      some b = gets .scanned ∙ pick-true _ _ _ b
 
       counted : (k v : ℕ) → k ≤ 1 → length (take k (v ∷ [])) ≡ k
       counted zero v h = refl
@@ -78,40 +92,48 @@ module _ (form t : List ℕ) (from place : ℕ) (before : List ℕ) where
           no : suc (suc k) ≤ 1 → ⊥
           no z = omega arith
 
-      taken-count : g .good ≡ true → g .count ≡ takes (itemOf (getD form f 0))
+      taken-count : st .good ≡ true → st .count ≡ takes (itemOf (getD form f 0))
       taken-count b =
-          sym (counted (g .count) (g .value) (e .one)) ∙ item-taken (itemOf (getD form f 0)) (drop at t) _ (drop (g .at) t) (some b) .count
+          sym (counted (st .count) (st .value) (gets .one))
+          ∙ item-taken (itemOf (getD form f 0)) (drop at t) _ (drop (st .at) t) (some b) .count
 
       room-cons : numbers (formOf (drop f form)) ≡ takes (itemOf (getD form f 0)) + numbers (formOf (drop (f + 1) form))
       unfolding numbers
       room-cons = rw (form-cons form f l)
 
-      pub scanning-more : g .good ≡ true → place + numbers (formOf form) < length before
-          → Scanning (set out n (g .value)) (f + 1) (g .at) (n + g .count) (lines + boolByte (eqb (getD form f 0) 10))
+      pub line-fits : st .good ≡ true → first + length form < 2 ^ 32 → st .line < 2 ^ 32
+      line-fits b h = omega (arith, lined b, ends-one (itemOf (getD form f 0)), s .few)
+
+      pub scanning-more : st .good ≡ true → place + numbers (formOf form) < length before
+          → Scanning (set out n (st .value)) (f + 1) (st .at) (n + st .count) (st .line)
       scanning-more b h =
+          let k : line - first + ends (itemOf (getD form f 0)) ≡ st .line - first = omega (arith, lined b, s .onward) in
           record {
-            ns = s .ns ++ take (g .count) (g .value ∷ []);
+            ns = s .ns ++ take (st .count) (st .value ∷ []);
             goes =
                 s .goes
-                ∙ rw (form-cons form f l, scan-item _ (formOf (drop (f + 1) form)) (drop at t) _ _ (some b), ends-byte (getD form f 0))
-                (joined-joined (s .ns) _ lines _ _);
-            grown = grown-some place n before out (s .ns) (s .grown) (g .value) (g .count) (room-for l h) (e .one);
-            same = length-set out n (g .value) ∙ s .same;
-            within = e .within;
+                ∙ rw (form-cons form f l, scan-item _ (formOf (drop (f + 1) form)) (drop at t) _ _ (some b), ← k)
+                (joined-joined (s .ns) _ (line - first) _ _);
+            grown = grown-some place n before out (s .ns) (s .grown) (st .value) (st .count) (room-for l h) (gets .one);
+            same = length-set out n (st .value) ∙ s .same;
+            within = gets .within;
             inForm = omega arith;
-            few = omega (arith, s .few, byte-small (eqb (getD form f 0) 10));
+            onward = omega (arith, lined b, s .onward);
+            few = omega (arith, lined b, s .few, ends-one (itemOf (getD form f 0)));
             room = omega (arith, s .room, room-cons, taken-count b);
           }
 
     pub scanning-end : length form ≤ f
-        → Scans (scan (formOf form) (drop from t)) t place (length form) before out (record { good = true; at = at; lines = lines; n = n })
+        → Scans (scan (formOf form) (drop from t)) t place first (length form) before out
+        (record { good = true; at = at; line = line; n = n })
     unfolding pick formOf scan
     scanning-end l =
         record {
           ns = s .ns;
-          scanned = s .goes ∙ rw (drop-of-length-le form {i = f} l) (joined-end (s .ns) lines (drop at t));
+          scanned = s .goes ∙ rw (drop-of-length-le form {i = f} l) (joined-end (s .ns) (line - first) (drop at t));
           grown = s .grown;
           within = s .within;
+          onward = s .onward;
           few = omega (arith, s .few, s .inForm);
         }
 
@@ -123,13 +145,6 @@ item-widest (lit x) v = omega arith
 item-widest (dec w) v = omega (arith, length-digits 10 w v)
 item-widest (hex w) v = omega (arith, length-digits 16 w v)
 item-widest name v = length-names v
-
-pub takes-one : (i : Item) → takes i ≤ 1
-unfolding takes
-takes-one (lit x) = omega arith
-takes-one (dec w) = omega arith
-takes-one (hex w) = omega arith
-takes-one name = omega arith
 
 module _ (form values : List ℕ) (from place : ℕ) (before : List ℕ) where
   pub record Rendering (out : List ℕ) (f n at : ℕ) : Type 0 where

@@ -1,13 +1,12 @@
 -- The writer: the loop over instruction lines, and what each return says. Assumes nothing.
-use mathlib.Core.Path.{_≡_, refl, sym, ap, _∙_, subst}
-use Prim.Native.Nat.{ℕ, zero, suc, _+_, _-_, _*_, _/_, _%_, _<_, _≤_}
+use mathlib.Core.Path.{_≡_, refl, sym, ap, _∙_}
+use Prim.Native.Nat.{ℕ, suc, _+_, _-_, _*_, _%_, _<_, _≤_}
 use native.Mathlib.Nat.{sub-zero}
 use native.Mathlib.Omega.{arith}
 use mathlib.Core.Bool.{Bool, true, false}
-use mathlib.Core.List.{List, [], _∷_, _++_, append-nil, append-assoc}
-use lib.ListN.{length, getD, take, drop}
+use mathlib.Core.List.{List, [], _++_, append-nil, append-assoc}
+use lib.ListN.{length, drop}
 use lib.Seq.{drop-drop}
-use lib.Dec.{eqb, leb}
 use borrow.Author.Tests.{eq-eqb, ne-eqb, le-leb, lt-leb, eqb-true, leb-true}
 use Rattle.lane.specs.declared.Settings.{Settings}
 use Rattle.lane.specs.Words.{pick}
@@ -15,9 +14,9 @@ use Rattle.lane.specs.Refusals.{settingsGood}
 use Rattle.lane.proofs.Cases.{pick-true, pick-false}
 use Rattle.runner.specs.declared.Found.{Found}
 use Rattle.runner.specs.Checks.{countOf, found, lengthsFirst, scanned, listAnswer}
-use Rattle.listing.specs.Forms.{Form, render, spell, bytes, literal}
-use Rattle.listing.specs.Places.{formOf, numbers, widest, widestItem, Grown, Renders}
-use Rattle.listing.specs.Listing.{header, line, lines, listing, headerOf, Write, refusedWriting, refuseWrite, acceptedWriting, writeList}
+use Rattle.listing.specs.Forms.{render, spell, bytes, literal}
+use Rattle.listing.specs.Places.{formOf, widest, widestItem, Grown, Renders}
+use Rattle.listing.specs.Listing.{header, line, lines, listing, headerOf, refuseWrite, acceptedWriting, writeList}
 use Rattle.listing.proofs.Readers.{line-numbers}
 use Rattle.listing.proofs.Rooms.{grown-none, grown-more}
 use Rattle.listing.proofs.Trips.{render-append}

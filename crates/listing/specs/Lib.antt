@@ -5,3 +5,5 @@ pub mod Places
 pub mod Listing
 pub mod Report
 pub mod Program
+pub mod Lines
+pub mod Held

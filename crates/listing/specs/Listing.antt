@@ -6,7 +6,6 @@ use lib.ListN.{getD, length, drop}
 use lib.Dec.{leb, eqb}
 use Rattle.lane.specs.declared.Settings.{Settings}
 use Rattle.lane.specs.Words.{pick}
-use Rattle.runner.specs.declared.Found.{Found}
 use Rattle.runner.specs.Checks.{countOf, listAnswer}
 use Rattle.listing.specs.declared.Reading.{Reading}
 use Rattle.listing.specs.declared.Writing.{Writing}

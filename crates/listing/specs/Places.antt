@@ -1,7 +1,6 @@
 -- How the code says what a scan finds and what a render writes: forms as byte strings, positions in a text, lists that grow in lent room.
-use Prim.Native.Nat.{ℕ, zero, suc, _+_, _-_, _≤_}
+use Prim.Native.Nat.{ℕ, _+_, _-_, _≤_}
 use mathlib.Core.Path.{_≡_}
-use mathlib.Core.Bool.{_&&_}
 use mathlib.Core.List.{List, [], _∷_, _++_, map}
 use lib.ListN.{length, take, drop}
 use lib.Dec.{ltb, leb, eqb}
@@ -43,15 +42,17 @@ pub record Gets (s : Scan) (t : List ℕ) (g : Got) : Type 0 where
   pub scanned : s ≡ pick (g .good) (taken (take (g .count) (g .value ∷ [])) (drop (g .at) t)) (faulty 0)
   pub within : g .at ≤ length t
   pub one : g .count ≤ 1
+  pub idle : g .count ≡ 0 → g .value ≡ 0
 
--- A form was scanned, up to a position; its numbers, or those before its first fault, went into lent room from p on. It has at most `most`
--- lines.
-pub record Scans (s : Scan) (t : List ℕ) (p most : ℕ) (before after : List ℕ) (r : Cursor) : Type 0 where
+-- A form was scanned from line `first` on, up to a position and a line; its numbers, or those before its first fault, went into lent room
+-- from p on. It has at most `most` lines.
+pub record Scans (s : Scan) (t : List ℕ) (p first most : ℕ) (before after : List ℕ) (r : Cursor) : Type 0 where
   pub ns : List ℕ
-  pub scanned : s ≡ pick (r .good) (taken ns (drop (r .at) t)) (faulty (r .lines))
+  pub scanned : s ≡ pick (r .good) (taken ns (drop (r .at) t)) (faulty (r .line - first))
   pub grown : Grown p (r .n) before after ns
   pub within : r .at ≤ length t
-  pub few : r .lines ≤ most
+  pub onward : first ≤ r .line
+  pub few : r .line ≤ first + most
 
 -- Bytes were written into lent room from p on, no more than a form can need.
 pub record Renders (bs : List ℕ) (p most : ℕ) (before after : List ℕ) (r : ℕ) : Type 0 where

@@ -4,6 +4,7 @@
 // digits, any other for itself.
 use crate::Cursor;
 use crate::Got;
+use crate::hold::read_item;
 ghost use mathlib.Core.Path.{_≡_};
 ghost use mathlib.Core.List.{[], _∷_, _++_};
 ghost use Prim.Native.Nat.{_+_, _-_, _^_, _<_, _≤_};
@@ -165,7 +166,7 @@ fn byte(text: &[u8], at: usize, x: u8) -> Got
 }
 
 // An item of a form, at a position.
-fn item(text: &[u8], at: usize, x: u8) -> Got
+pub(crate) fn item(text: &[u8], at: usize, x: u8) -> Got
     requires { ⌜ at ≤ length (now text) ⌝ }
     ensures { λ r. ⌜ Places.Gets (Forms.scanItem (Places.itemOf x) (drop at (now (text .entry)))) (now (text .entry)) r ⌝ }
 {
@@ -184,36 +185,42 @@ fn item(text: &[u8], at: usize, x: u8) -> Got
     byte(text, at, x)
 }
 
-// A form, from a position on: its numbers go into `out` from `place` on.
-pub(crate) fn scan(text: &[u8], from: usize, form: &[u8], out: &mut [u32], place: usize) -> Cursor
-    requires { ⌜ (from ≤ length (now text)) × (place + Places.numbers (Places.formOf (now form)) < length (now out)) × (length (now form) < 2 ^ 32) ⌝ }
-    ensures { λ r. ⌜ Places.Scans (Forms.scan (Places.formOf (now (form .entry))) (drop from (now (text .entry)))) (now (text .entry)) place (length (now (form .entry))) (now (out .entry)) (now (out .exit)) r ⌝ }
+// A form, from a position and the line `first` on, item by item through the reader: its numbers go into `out` from `place` on.
+pub(crate) fn scan(
+    text: &[u8],
+    from: usize,
+    first: u32,
+    form: &[u8],
+    out: &mut [u32],
+    place: usize,
+) -> Cursor
+    requires { ⌜ (from ≤ length (now text)) × (place + Places.numbers (Places.formOf (now form)) < length (now out)) × (first + length (now form) < 2 ^ 32) ⌝ }
+    ensures { λ r. ⌜ Places.Scans (Forms.scan (Places.formOf (now (form .entry))) (drop from (now (text .entry)))) (now (text .entry)) place first (length (now (form .entry))) (now (out .entry)) (now (out .exit)) r ⌝ }
 {
     let mut f: usize = 0;
     let mut at = from;
     let mut n = place;
-    let mut lines: u32 = 0;
+    let mut line = first;
     while f < form.len() {
-        let x = form[f];
-        let got = item(text, at, x);
-        if !got.good {
+        let step = read_item(text, at, line, form[f]);
+        if !step.good {
             return Cursor {
                 good: false,
                 at,
-                lines,
+                line,
                 n,
             };
         }
-        out[n] = got.value;
-        n += got.count;
-        at = got.at;
-        lines += (x == 10) as u32;
+        out[n] = step.value;
+        n += step.count;
+        at = step.at;
+        line = step.line as u32;
         f += 1;
     }
     Cursor {
         good: true,
         at,
-        lines,
+        line,
         n,
     }
 }

@@ -4,6 +4,8 @@
 
 // One scan and one render over all forms.
 mod forms;
+// The reader that keeps hold of the text.
+mod hold;
 // Text to settings and list.
 pub mod reader;
 // Settings and list to text.
@@ -40,11 +42,20 @@ struct Got {
     value: u32,
 }
 
-// A form scanned in a text: whether it is there, the position after it, the lines passed, and where the numbers in lent room end.
+// An item read at a position and a line: whether it is there, the position and the line after it, and its number, if it has one.
+struct Step {
+    good: bool,
+    at: usize,
+    line: usize,
+    count: usize,
+    value: u32,
+}
+
+// A form scanned in a text: whether it is there, the position and the line after it, and where the numbers in lent room end.
 struct Cursor {
     good: bool,
     at: usize,
-    lines: u32,
+    line: u32,
     n: usize,
 }
 

@@ -8,7 +8,7 @@ use crate::forms::scan;
 use lane::Settings;
 use runner::checks::list_answer;
 ghost use mathlib.Core.Path.{_≡_};
-ghost use Prim.Native.Nat.{_+_, _*_, _<_, _≤_};
+ghost use Prim.Native.Nat.{_+_, _<_, _≤_};
 ghost use lib.ListN.{length, take, drop};
 ghost use Rattle.listing.specs.Forms as Forms;
 ghost use Rattle.listing.specs.Places as Places;
@@ -56,13 +56,13 @@ fn settings_of(head: &[u32; 10]) -> Settings
 // The instruction lines.
 fn lines(text: &[u8], from: usize, count: u32, words: &mut [u32]) -> Cursor
     requires { ⌜ (from ≤ length (now text)) × (count ≤ 1024) × (6144 < length (now words)) ⌝ }
-    ensures { λ r. ⌜ Places.Scans (Forms.scan (Listing.lines count) (drop from (now (text .entry)))) (now (text .entry)) 0 2048 (now (words .entry)) (now (words .exit)) r ⌝ }
+    ensures { λ r. ⌜ Places.Scans (Forms.scan (Listing.lines count) (drop from (now (text .entry)))) (now (text .entry)) 0 10 2048 (now (words .entry)) (now (words .exit)) r ⌝ }
 {
     let mut at = from;
     let mut n: usize = 0;
     let mut i: u32 = 0;
     while i < count {
-        let c = scan(text, at, &LINE, words, n);
+        let c = scan(text, at, 10 + i, &LINE, words, n);
         if c.good {
             at = c.at;
             n = c.n;
@@ -71,7 +71,7 @@ fn lines(text: &[u8], from: usize, count: u32, words: &mut [u32]) -> Cursor
             return Cursor {
                 good: false,
                 at: c.at,
-                lines: i + c.lines,
+                line: c.line,
                 n: c.n,
             };
         }
@@ -79,7 +79,7 @@ fn lines(text: &[u8], from: usize, count: u32, words: &mut [u32]) -> Cursor
     Cursor {
         good: true,
         at,
-        lines: i,
+        line: 10 + i,
         n,
     }
 }
@@ -124,7 +124,7 @@ fn read_rest(text: &[u8], at: usize, head: &[u32; 10], list: &mut [u32]) -> Read
         }
         return read_list(settings_of(head), &words, c.n, list);
     }
-    refused(10, 10 + c.lines, 0)
+    refused(10, c.line, 0)
 }
 
 // A listing: its settings, and its list in front of the lent room.
@@ -135,9 +135,9 @@ pub fn read(text: &[u8], list: &mut [u32]) -> Reading
         return refused(11, 0, 0);
     }
     let mut head: [u32; 10] = [0; 10];
-    let c = scan(text, 0, &HEADER, &mut head, 0);
+    let c = scan(text, 0, 1, &HEADER, &mut head, 0);
     if c.good {
         return read_rest(text, c.at, &head, list);
     }
-    refused(10, 1 + c.lines, 0)
+    refused(10, c.line, 0)
 }

@@ -4,7 +4,6 @@ use crate::forms::put_number;
 use crate::forms::render;
 use crate::forms::word_at;
 ghost use mathlib.Core.Path.{_≡_};
-ghost use mathlib.Core.List.{[], _∷_};
 ghost use Prim.Native.Nat.{_+_, _<_, _≤_};
 ghost use lib.ListN.{length};
 ghost use Rattle.listing.specs.Forms as Forms;

@@ -53,6 +53,7 @@ fn valued_by_op(image: &mut [u32], op: u32, i: Insn, b: &[u32; 32], c: &[u32; 32
         9 => valued_rows(image, 9, i, b, c),
         10 => valued_rows(image, 10, i, b, c),
         11 => valued_rows(image, 11, i, b, c),
+        14 => valued_rows(image, 14, i, b, c),
         _ => valued_rows(image, op, i, b, c),
     }
 }

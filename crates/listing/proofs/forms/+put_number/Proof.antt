@@ -1,17 +1,17 @@
-use lib.ListN.{length-set}
-use native.Mathlib.Omega.{arith}
-use borrow.Author.Needs.{needs}
-use native.Mathlib.Nat.{lt-of-lt-of-le, mod-lt}
-use Rattle.listing.proofs.Rooms.{number-grows, no-digits}
 use Prim.Native.Nat.{ℕ, _<_}
+use borrow.Author.Needs.{needs}
 use borrow.Fn.Kinds.{In}
 use borrow.Fn.PlainCycle.{Measures, is, falls, and}
+use lib.ListN.{length-set}
+use native.Mathlib.Nat.{lt-of-lt-of-le, mod-lt}
+use native.Mathlib.Omega.{arith}
+use Rattle.listing.proofs.Rooms.{number-grows, no-digits}
+use Rattle.listing.proofs.forms.+put_number.{statement}
+use Rattle.listing.proofs.forms.+put_number.Tie.{close}
 use Rattle.listing.proofs.forms.put_number.Reads as put-number
 use Rattle.listing.proofs.forms.put_number.Kinds as put-number-kinds
 use Rattle.listing.proofs.forms.+put_number.Lts-put_number as put-number-lts
 use Rattle.listing.proofs.forms.glyph.Reads as glyph-reads
-use Rattle.listing.proofs.forms.+put_number.{statement}
-use Rattle.listing.proofs.forms.+put_number.Tie.{close}
 
 abbrev μ-put-number : Measures 1 put-number-kinds.ps ℕ
 μ-put-number κs a = a .1 .1 .1 .0
@@ -24,7 +24,6 @@ abbrev put-number-below : ℕ → In 1 put-number-kinds.ps
 put-number-below t =
     and 1 put-number-kinds.ps (falls 1 put-number-kinds.ps _<_ μ-put-number t) put-number.Pre
 
--- src/forms.rt:246:35
 put-number-sub-put-number : (t : ℕ) → put-number-lts.Need-sub-put-number (
   put-number-below t,
   put-number.Post,
@@ -33,7 +32,6 @@ put-number-sub-put-number : (t : ℕ) → put-number-lts.Need-sub-put-number (
 ) (put-number-at t) put-number.Post
 put-number-sub-put-number t c = search needs
 
--- src/forms.rt:246:42
 put-number-div-put-number : (t : ℕ) → put-number-lts.Need-div-put-number (
   put-number-below t,
   put-number.Post,
@@ -42,7 +40,6 @@ put-number-div-put-number : (t : ℕ) → put-number-lts.Need-div-put-number (
 ) (put-number-at t) put-number.Post
 put-number-div-put-number t c = omega (arith, c .before .before .before .pre .1 .1)
 
--- src/forms.rt:246:9
 put-number-put-number-requires : (t : ℕ) → put-number-lts.Need-put-number-requires (
   put-number-below t,
   put-number.Post,
@@ -51,7 +48,6 @@ put-number-put-number-requires : (t : ℕ) → put-number-lts.Need-put-number-re
 ) (put-number-at t) put-number.Post
 put-number-put-number-requires t c κs = (omega (arith, c .before .before .before .pre .0), (omega (arith, c .before .before .before .pre .1 .0), c .before .before .before .pre .1 .1, c .before .before .before .pre .1 .2))
 
--- src/forms.rt:247:35
 put-number-rem-glyph : (t : ℕ) → put-number-lts.Need-rem-glyph (
   put-number-below t,
   put-number.Post,
@@ -60,7 +56,6 @@ put-number-rem-glyph : (t : ℕ) → put-number-lts.Need-rem-glyph (
 ) (put-number-at t) put-number.Post
 put-number-rem-glyph t c = omega (arith, c .before .before .before .before .before .before .pre .1 .1)
 
--- src/forms.rt:247:29
 put-number-glyph-requires : (t : ℕ) → put-number-lts.Need-glyph-requires (
   put-number-below t,
   put-number.Post,
@@ -69,7 +64,6 @@ put-number-glyph-requires : (t : ℕ) → put-number-lts.Need-glyph-requires (
 ) (put-number-at t) put-number.Post
 put-number-glyph-requires t c κs = lt-of-lt-of-le (mod-lt _ (c .before .before .before .before .before .before .pre .1 .1)) (c .before .before .before .before .before .before .pre .1 .2)
 
--- src/forms.rt:247:19
 put-number-sub-out : (t : ℕ) → put-number-lts.Need-sub-out (
   put-number-below t,
   put-number.Post,
@@ -78,7 +72,6 @@ put-number-sub-out : (t : ℕ) → put-number-lts.Need-sub-out (
 ) (put-number-at t) put-number.Post
 put-number-sub-out t c = search needs
 
--- src/forms.rt:247:13
 put-number-add-out : (t : ℕ) → put-number-lts.Need-add-out (
   put-number-below t,
   put-number.Post,
@@ -87,7 +80,6 @@ put-number-add-out : (t : ℕ) → put-number-lts.Need-add-out (
 ) (put-number-at t) put-number.Post
 put-number-add-out t c = omega (arith, c .before .before .before .before .before .before .before .pre .1 .0)
 
--- src/forms.rt:247:9
 put-number-slice-write-out : (t : ℕ) → put-number-lts.Need-slice-write-out (
   put-number-below t,
   put-number.Post,
@@ -96,7 +88,6 @@ put-number-slice-write-out : (t : ℕ) → put-number-lts.Need-slice-write-out (
 ) (put-number-at t) put-number.Post
 put-number-slice-write-out t c = omega (arith, c .before .before .before .before .before .before .before .pre .1 .0, c .before .before .before .put-number .kept .0)
 
--- src/forms.rt:241:1
 put-number-same-length : (t : ℕ) → put-number-lts.Need-same-length (
   put-number-below t,
   put-number.Post,
@@ -105,7 +96,6 @@ put-number-same-length : (t : ℕ) → put-number-lts.Need-same-length (
 ) (put-number-at t) put-number.Post
 put-number-same-length t c = simp length-set (c .before .before .before .put-number .kept .0)
 
--- src/forms.rt:241:1
 put-number-returns : (t : ℕ) → put-number-lts.Need-returns (
   put-number-below t,
   put-number.Post,
@@ -114,7 +104,6 @@ put-number-returns : (t : ℕ) → put-number-lts.Need-returns (
 ) (put-number-at t) put-number.Post
 put-number-returns t c = number-grows (c .before .before .before .before .before .before .before .args .base) (c .before .before .before .before .before .before .before .args .w) (c .before .before .before .before .before .before .before .args .n) (c .before .before .before .before .before .before .before .args .at) (c .before .before .before .before .before .before .before .args .out .now) (c .before .before .before .put-number .last .0) (c .glyph .result) (c .before .before .before .before .before .if1 .taken) (omega (arith, c .before .before .before .before .before .before .before .pre .1 .0, c .before .before .before .put-number .kept .0)) (c .before .before .before .put-number .ensures) (c .glyph .ensures)
 
--- src/forms.rt:241:1
 put-number-returns-2 : (t : ℕ) → put-number-lts.Need-returns-2 (
   put-number-below t,
   put-number.Post,

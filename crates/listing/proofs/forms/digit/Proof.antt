@@ -1,40 +1,31 @@
-use Rattle.lane.proofs.Cases.{cases}
-use Rattle.listing.specs.Forms.{digit}
 use borrow.Author.Needs.{needs}
+use Rattle.lane.proofs.Cases.{cases}
 use Rattle.listing.proofs.forms.digit.Statement.{statement}
+use Rattle.listing.specs.Forms.{digit}
 use Rattle.listing.proofs.forms.digit.Tie as tie
-use Rattle.listing.proofs.forms.digit.Reads as reads
-use Rattle.listing.proofs.forms.digit.Lts as lts
 
--- src/forms.rt:39:9
 returns : tie.Need-returns
 unfolding digit
 returns c = search (needs, cases) depth 12
 
--- src/forms.rt:42:16
 sub-result : tie.Need-sub-result
 sub-result c = search needs
 
--- src/forms.rt:42:9
 returns-2 : tie.Need-returns-2
 unfolding digit
 returns-2 c = search (needs, cases) depth 12
 
--- src/forms.rt:45:9
 returns-3 : tie.Need-returns-3
 unfolding digit
 returns-3 c = search (needs, cases) depth 12
 
--- src/forms.rt:48:16
 sub-result-2 : tie.Need-sub-result-2
 sub-result-2 c = search needs
 
--- src/forms.rt:48:9
 returns-4 : tie.Need-returns-4
 unfolding digit
 returns-4 c = search (needs, cases) depth 12
 
--- src/forms.rt:35:1
 returns-5 : tie.Need-returns-5
 unfolding digit
 returns-5 c = search (needs, cases) depth 12

@@ -1,20 +1,14 @@
-use mathlib.Core.Path.{refl, sym, _∙_}
-use Prim.Native.Nat.{_<_}
+use Prim.Native.Nat.{_<_, _≤_, _+_, _-_}
+use borrow.Author.Needs.{needs}
+use lib.ListN.{length, drop}
+use mathlib.Core.Path.{refl, sym, _∙_, _≡_}
 use native.Mathlib.Nat.{add-zero}
-use Rattle.listing.specs.Forms.{spell, bytes}
+use native.Mathlib.Omega.{arith}
 use Rattle.listing.proofs.Names.{cell-at, letter-at, length-at, length-name}
 use Rattle.listing.proofs.Scans.{begins-more, begins-stops, begins-ends}
-use mathlib.Core.Path.{_≡_}
-use lib.ListN.{length, drop}
-use Prim.Native.Nat.{_≤_, _+_, _-_}
-use native.Mathlib.Omega.{arith}
-use borrow.Author.Needs.{needs}
-use Rattle.listing.specs.Forms.{nameOf, begins, text}
 use Rattle.listing.proofs.forms.named.Statement.{statement}
+use Rattle.listing.specs.Forms.{spell, bytes, nameOf, begins, text}
 use Rattle.listing.proofs.forms.named.Tie as tie
-use Rattle.listing.proofs.forms.named.Reads as reads
-use Rattle.listing.proofs.forms.named.Lts as lts
-use Rattle.listing.proofs.forms.byte_at.Reads as byte-at-reads
 
 abbrev Inv-loop : tie.InvT-loop
 Inv-loop text at op n i₀ i = (i ≤ n) × (n ≡ length (nameOf op)) × (begins (nameOf op) (drop at text) ≡ begins (drop i (nameOf op)) (drop (at + i) text)) × (n < 8)
@@ -22,54 +16,42 @@ Inv-loop text at op n i₀ i = (i ≤ n) × (n ≡ length (nameOf op)) × (begin
 abbrev μ-loop : tie.MeasureT-loop
 μ-loop text at op n i₀ i = n - i
 
--- src/forms.rt:98:13
 mul-n : tie.Need-mul-n Inv-loop μ-loop
 mul-n c = search needs
 
--- src/forms.rt:98:13
 array-read-n : tie.Need-array-read-n Inv-loop μ-loop
 array-read-n c = search needs
 
--- src/forms.rt:100:5
 loop-holds : tie.Need-loop-holds Inv-loop μ-loop
 loop-holds c = let e = length-at (c .before .args .op) (c .before .pre .1) in
     (omega arith, e, rw (add-zero (c .before .args .at)) refl, rw e (length-name (c .before .args .op) (c .before .pre .1)))
 
--- src/forms.rt:101:26
 add-byte-at : tie.Need-add-byte-at Inv-loop μ-loop
 add-byte-at c = search needs
 
--- src/forms.rt:101:12
 byte-at-requires : tie.Need-byte-at-requires Inv-loop μ-loop
 byte-at-requires c κs = search needs
 
--- src/forms.rt:101:43
 mul-if1 : tie.Need-mul-if1 Inv-loop μ-loop
 mul-if1 c = search needs
 
--- src/forms.rt:101:43
 add-if1 : tie.Need-add-if1 Inv-loop μ-loop
 add-if1 c = search needs
 
--- src/forms.rt:101:37
 array-read-if1 : tie.Need-array-read-if1 Inv-loop μ-loop
 array-read-if1 c = omega arith
 
--- src/forms.rt:102:13
 returns : tie.Need-returns Inv-loop μ-loop
 unfolding bytes spell
 returns c = sym (c .before .before .before .loop .inv .2 ∙ begins-stops (nameOf (c .before .before .before .before .before .args .op)) (c .before .before .before .before .before .args .text .now) (c .before .before .before .before .before .args .at) (c .before .before .before .loop .i) (omega arith)
     (λ e. c .if1 .taken (c .before .byte-at .ensures ∙ e ∙ sym (cell-at (c .before .before .before .before .before .args .op) (c .before .before .before .loop .i) (c .before .before .before .before .before .pre .1) (omega arith)))))
 
--- src/forms.rt:104:9
 add-i : tie.Need-add-i Inv-loop μ-loop
 add-i c = search needs
 
--- src/forms.rt:100:5
 loop-less : tie.Need-loop-less Inv-loop μ-loop
 loop-less c = omega arith
 
--- src/forms.rt:100:5
 loop-again : tie.Need-loop-again Inv-loop μ-loop
 unfolding bytes spell
 loop-again c = (
@@ -80,7 +62,6 @@ loop-again c = (
   c .before .before .before .loop .inv .3,
 )
 
--- src/forms.rt:94:1
 returns-2 : tie.Need-returns-2 Inv-loop μ-loop
 returns-2 c = sym (c .before .loop .inv .2 ∙ begins-ends (nameOf (c .before .before .before .args .op)) (c .before .before .before .args .text .now) (c .before .before .before .args .at) (c .before .loop .i) (omega arith))
 

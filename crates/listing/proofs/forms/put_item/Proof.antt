@@ -1,98 +1,74 @@
+use borrow.Author.Needs.{needs}
 use native.Mathlib.Omega.{arith}
+use Rattle.listing.proofs.Items.{item-dec, item-name, item-low, item-hex, item-high}
+use Rattle.listing.proofs.forms.put_item.Statement.{statement}
 use Rattle.listing.specs.Forms.{renderItem}
 use Rattle.listing.specs.Places.{widestItem}
-use Rattle.listing.proofs.Items.{item-dec, item-name, item-low, item-hex, item-high}
-use borrow.Author.Needs.{needs}
-use Rattle.listing.proofs.forms.put_item.Statement.{statement}
 use Rattle.listing.proofs.forms.put_item.Tie as tie
-use Rattle.listing.proofs.forms.put_item.Reads as reads
-use Rattle.listing.proofs.forms.put_item.Lts as lts
-use Rattle.listing.proofs.forms.put_byte.Reads as put-byte-reads
-use Rattle.listing.proofs.forms.put_number.Reads as put-number-reads
-use Rattle.listing.proofs.forms.put_op.Reads as put-op-reads
 
--- src/forms.rt:291:9
 put-number-requires : tie.Need-put-number-requires
 unfolding widestItem
 put-number-requires c κs = (rw (item-dec _ (c .before .if1 .taken)) at (c .before .before .before .pre), omega arith, omega arith)
 
--- src/forms.rt:292:16
 add-result : tie.Need-add-result
 add-result c = search needs
 
--- src/forms.rt:292:9
 same-length : tie.Need-same-length
 same-length c = search needs
 
--- src/forms.rt:292:9
 returns : tie.Need-returns
 unfolding renderItem
 returns c = rw (item-dec _ (c .before .before .before .before .if1 .taken)) (c .before .before .put-number .ensures)
 
--- src/forms.rt:295:9
 put-op-requires : tie.Need-put-op-requires
 unfolding widestItem
 put-op-requires c κs = rw (item-name _ (c .before .if2 .taken)) at (c .before .before .before .before .pre)
 
--- src/forms.rt:295:9
 same-length-2 : tie.Need-same-length-2
 same-length-2 c = search needs
 
--- src/forms.rt:295:9
 returns-2 : tie.Need-returns-2
 unfolding renderItem
 returns-2 c = rw (item-name _ (c .before .before .before .before .if2 .taken)) (c .before .before .put-op .ensures)
 
--- src/forms.rt:298:9
 put-byte-requires : tie.Need-put-byte-requires
 unfolding widestItem
 put-byte-requires c κs = omega (arith, rw (item-low _ (c .before .before .before .if1 .left) (c .before .before .if2 .left) (c .before .if3 .taken)) at (c .before .before .before .before .before .pre))
 
--- src/forms.rt:298:9
 same-length-3 : tie.Need-same-length-3
 same-length-3 c = search needs
 
--- src/forms.rt:298:9
 returns-3 : tie.Need-returns-3
 unfolding renderItem
 returns-3 c = rw (item-low _ (c .before .before .before .before .before .before .if1 .left) (c .before .before .before .before .before .if2 .left) (c .before .before .before .before .if3 .taken)) (c .before .before .put-byte .ensures)
 
--- src/forms.rt:301:33
 sub-put-number : tie.Need-sub-put-number
 sub-put-number c = search needs
 
--- src/forms.rt:301:9
 put-number-requires-2 : tie.Need-put-number-requires-2
 unfolding widestItem
 put-number-requires-2 c κs = (rw (item-hex _ (c .before .before .if3 .left) (c .before .if4 .taken)) at (c .before .before .before .before .before .before .pre), omega arith, omega arith)
 
--- src/forms.rt:302:22
 sub-result : tie.Need-sub-result
 sub-result c = search needs
 
--- src/forms.rt:302:16
 add-result-2 : tie.Need-add-result-2
 add-result-2 c = search needs
 
--- src/forms.rt:302:9
 same-length-4 : tie.Need-same-length-4
 same-length-4 c = search needs
 
--- src/forms.rt:302:9
 returns-4 : tie.Need-returns-4
 unfolding renderItem
 returns-4 c = rw (item-hex _ (c .before .before .before .before .before .if3 .left) (c .before .before .before .before .if4 .taken)) (c .before .before .put-number2 .ensures)
 
--- src/forms.rt:304:5
 put-byte-requires-2 : tie.Need-put-byte-requires-2
 unfolding widestItem
 put-byte-requires-2 c κs = omega (arith, rw (item-high _ (c .before .if4 .left)) at (c .before .before .before .before .before .before .pre))
 
--- src/forms.rt:286:1
 same-length-5 : tie.Need-same-length-5
 same-length-5 c = search needs
 
--- src/forms.rt:286:1
 returns-5 : tie.Need-returns-5
 unfolding renderItem
 returns-5 c = rw (item-high _ (c .before .before .before .before .if4 .left)) (c .before .before .put-byte2 .ensures)

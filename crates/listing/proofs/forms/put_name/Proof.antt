@@ -1,20 +1,15 @@
-use Rattle.listing.proofs.Rooms.{name-whole}
-use lib.Seq.{take-length}
-use Rattle.listing.proofs.Rooms.{name-grows}
-use mathlib.Core.Path.{refl, sym, _∙_, _≡_}
-use lib.ListN.{length, take, length-set}
 use Prim.Native.Nat.{_<_, _≤_, _+_, _-_}
-use native.Mathlib.Omega.{arith}
 use borrow.Author.Needs.{needs}
+use lib.ListN.{length, take, length-set}
+use mathlib.Core.Path.{refl, sym, _≡_}
 use native.Mathlib.Nat.{add-zero}
+use native.Mathlib.Omega.{arith}
+use Rattle.listing.proofs.Names.{cell-at, length-at, length-name}
+use Rattle.listing.proofs.Rooms.{name-whole, name-grows, grown-none}
+use Rattle.listing.proofs.forms.put_name.Statement.{statement}
 use Rattle.listing.specs.Forms.{spell, bytes, nameOf}
 use Rattle.listing.specs.Places.{Grown}
-use Rattle.listing.proofs.Rooms.{grown-none}
-use Rattle.listing.proofs.Names.{cell-at, length-at, length-name}
-use Rattle.listing.proofs.forms.put_name.Statement.{statement}
 use Rattle.listing.proofs.forms.put_name.Tie as tie
-use Rattle.listing.proofs.forms.put_name.Reads as reads
-use Rattle.listing.proofs.forms.put_name.Lts as lts
 
 abbrev Inv-loop : tie.InvT-loop
 Inv-loop out₀ at op n i₀ out i = (i ≤ n) × (n ≡ length (nameOf op)) × (Grown at (at + i) out₀ out (take i (nameOf op))) × (n < 8) × (length out ≡ length out₀)
@@ -22,48 +17,37 @@ Inv-loop out₀ at op n i₀ out i = (i ≤ n) × (n ≡ length (nameOf op)) × 
 abbrev μ-loop : tie.MeasureT-loop
 μ-loop out₀ at op n i₀ out i = n - i
 
--- src/forms.rt:256:13
 mul-n : tie.Need-mul-n Inv-loop μ-loop
 mul-n c = search needs
 
--- src/forms.rt:256:13
 array-read-n : tie.Need-array-read-n Inv-loop μ-loop
 array-read-n c = search needs
 
--- src/forms.rt:258:5
 loop-holds : tie.Need-loop-holds Inv-loop μ-loop
 loop-holds c = let e = length-at (c .args .op) (c .pre .1) in
     (omega arith, e, rw (add-zero (c .args .at)) (grown-none _ _), rw e (length-name (c .args .op) (c .pre .1)), refl)
 
--- src/forms.rt:259:29
 mul-out : tie.Need-mul-out Inv-loop μ-loop
 mul-out c = search needs
 
--- src/forms.rt:259:29
 add-out : tie.Need-add-out Inv-loop μ-loop
 add-out c = omega arith
 
--- src/forms.rt:259:23
 array-read-out : tie.Need-array-read-out Inv-loop μ-loop
 array-read-out c = omega arith
 
--- src/forms.rt:259:13
 add-out-2 : tie.Need-add-out-2 Inv-loop μ-loop
 add-out-2 c = omega arith
 
--- src/forms.rt:259:9
 slice-write-out : tie.Need-slice-write-out Inv-loop μ-loop
 slice-write-out c = omega arith
 
--- src/forms.rt:260:9
 add-i : tie.Need-add-i Inv-loop μ-loop
 add-i c = omega arith
 
--- src/forms.rt:258:5
 loop-less : tie.Need-loop-less Inv-loop μ-loop
 loop-less c = omega arith
 
--- src/forms.rt:258:5
 loop-again : tie.Need-loop-again Inv-loop μ-loop
 unfolding bytes spell
 loop-again c = (
@@ -74,15 +58,12 @@ loop-again c = (
   simp length-set (c .before .loop .inv .4),
 )
 
--- src/forms.rt:262:5
 add-result : tie.Need-add-result Inv-loop μ-loop
 add-result c = omega arith
 
--- src/forms.rt:252:1
 same-length : tie.Need-same-length Inv-loop μ-loop
 same-length c = c .before .loop .inv .4
 
--- src/forms.rt:252:1
 returns : tie.Need-returns Inv-loop μ-loop
 returns c = name-whole (c .before .before .args .op) (c .before .before .args .at) (c .before .loop .i) _ (c .before .before .args .out .now) (c .before .loop .out) (c .before .loop .inv .1) (c .before .loop .inv .0) (c .loop-test .left) (c .before .loop .inv .2)
 

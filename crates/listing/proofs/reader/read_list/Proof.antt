@@ -1,54 +1,40 @@
-use mathlib.Core.Path.{refl, sym}
+use borrow.Author.Needs.{needs}
 use lib.ListN.{length, take}
 use lib.Seq.{length-take-le}
+use mathlib.Core.Path.{refl, sym}
 use native.Mathlib.Omega.{arith}
-use Rattle.listing.specs.Listing.{acceptedReading}
 use Rattle.listing.proofs.Readers.{read-list-refused, read-list-short, read-list-done}
-use borrow.Author.Needs.{needs}
 use Rattle.listing.proofs.reader.read_list.Statement.{statement}
+use Rattle.listing.specs.Listing.{acceptedReading}
 use Rattle.listing.proofs.reader.read_list.Tie as tie
-use Rattle.listing.proofs.reader.read_list.Reads as reads
-use Rattle.listing.proofs.reader.read_list.Lts as lts
-use Rattle.listing.proofs.forms.copy_words.Reads as copy-words-reads
-use Rattle.listing.proofs.reader.refused.Reads as refused-reads
-use Rattle.runner.proofs.checks.list_answer.Reads as list-answer-reads
 
--- src/reader.rt:92:32
 slice-aggregate-list-answer : tie.Need-slice-aggregate-list-answer
 slice-aggregate-list-answer c = sym (length-take-le _ _ (c .before .before .before .pre))
 
--- src/reader.rt:92:9
 list-answer-requires : tie.Need-list-answer-requires
 list-answer-requires c κs = search needs
 
--- src/reader.rt:94:9
 refused-requires : tie.Need-refused-requires
 refused-requires c κs = search needs
 
--- src/reader.rt:94:9
 returns : tie.Need-returns
 returns c = let e = read-list-refused (length (c .before .before .before .before .before .before .before .args .list .now)) (c .before .before .before .before .before .before .before .args .s) (take (c .before .before .before .before .before .before .before .args .n) (c .before .before .before .before .before .before .before .args .words .now)) (c .before .before .before .list-answer .result) (c .before .before .before .list-answer .ensures) (c .before .if1 .taken) in
     (rw e (c .refused .ensures), rw e refl)
 
--- src/reader.rt:97:9
 refused-requires-2 : tie.Need-refused-requires-2
 refused-requires-2 c κs = search needs
 
--- src/reader.rt:97:9
 returns-2 : tie.Need-returns-2
 returns-2 c = let k = length-take-le (c .before .before .before .before .before .before .before .before .args .n) (c .before .before .before .before .before .before .before .before .args .words .now) (c .before .before .before .before .before .before .before .before .pre) in
     let e = read-list-short (length (c .before .before .before .before .before .before .before .before .args .list .now)) (c .before .before .before .before .before .before .before .before .args .s) (take (c .before .before .before .before .before .before .before .before .args .n) (c .before .before .before .before .before .before .before .before .args .words .now)) (c .before .before .before .before .list-answer .result) (c .before .before .before .before .list-answer .ensures) (c .before .before .if1 .left) (omega arith) in
     (rw e (c .refused2 .ensures), rw e refl)
 
--- src/reader.rt:99:5
 copy-words-requires : tie.Need-copy-words-requires
 copy-words-requires c κs = search needs
 
--- src/reader.rt:88:1
 same-length : tie.Need-same-length
 same-length c = search needs
 
--- src/reader.rt:88:1
 returns-3 : tie.Need-returns-3
 unfolding acceptedReading
 returns-3 c = let k = length-take-le (c .before .before .before .before .before .before .before .before .before .before .before .args .n) (c .before .before .before .before .before .before .before .before .before .before .before .args .words .now) (c .before .before .before .before .before .before .before .before .before .before .before .pre) in

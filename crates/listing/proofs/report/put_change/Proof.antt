@@ -1,50 +1,36 @@
+use borrow.Author.Needs.{needs}
 use mathlib.Core.Path.{sym, _∙_}
 use native.Mathlib.Omega.{arith}
-use Rattle.listing.specs.Forms.{spell, bytes}
 use Rattle.listing.proofs.Reports.{change-form, change-widest, change-none, change-some}
-use borrow.Author.Needs.{needs}
 use Rattle.listing.proofs.report.put_change.Statement.{statement}
+use Rattle.listing.specs.Forms.{spell, bytes}
 use Rattle.listing.proofs.report.put_change.Tie as tie
-use Rattle.listing.proofs.report.put_change.Reads as reads
-use Rattle.listing.proofs.report.put_change.Lts as lts
-use Rattle.listing.proofs.forms.render.Reads as render-reads
-use Rattle.listing.proofs.forms.word_at.Reads as word-at-reads
-use Rattle.listing.proofs.report.register_of.Reads as register-of-reads
 
--- src/report.rt:66:9
 word-at-requires : tie.Need-word-at-requires
 word-at-requires c κs = search needs
 
--- src/report.rt:67:8
 word-at-requires-2 : tie.Need-word-at-requires-2
 word-at-requires-2 c κs = search needs
 
--- src/report.rt:68:9
 returns : tie.Need-returns
 returns c = change-none (c .before .before .before .before .before .before .args .before .now) (c .before .before .before .before .before .before .args .after .now) (c .before .before .before .before .before .before .args .p) (c .before .before .before .before .before .before .args .at) (c .before .before .before .before .before .before .args .page .now) (sym (c .before .word-at2 .ensures) ∙ c .if1 .taken ∙ c .before .before .word-at .ensures)
 
--- src/report.rt:70:12
 slice-aggregate-render : tie.Need-slice-aggregate-render
 slice-aggregate-render c = search needs
 
--- src/report.rt:70:23
 register-of-requires : tie.Need-register-of-requires
 register-of-requires c κs = search needs
 
--- src/report.rt:70:21
 slice-aggregate-render-2 : tie.Need-slice-aggregate-render-2
 slice-aggregate-render-2 c = search needs
 
--- src/report.rt:70:5
 render-requires : tie.Need-render-requires
 unfolding bytes spell
 render-requires c κs = (omega arith, rw (change-form, change-widest) (c .before .before .before .before .before .before .before .before .before .before .pre .0))
 
--- src/report.rt:62:1
 same-length : tie.Need-same-length
 same-length c = search needs
 
--- src/report.rt:62:1
 returns-2 : tie.Need-returns-2
 unfolding bytes spell
 returns-2 c = let s = c .before .before .render .ensures in

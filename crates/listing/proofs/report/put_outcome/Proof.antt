@@ -1,60 +1,44 @@
-use native.Mathlib.Omega.{arith}
-use Rattle.listing.specs.Forms.{spell, bytes}
-use Rattle.listing.proofs.Reports.{answer-widest, outcome-widest, outcome-grows}
 use borrow.Author.Needs.{needs}
+use native.Mathlib.Omega.{arith}
+use Rattle.listing.proofs.Reports.{answer-widest, outcome-widest, outcome-grows}
 use Rattle.listing.proofs.report.put_outcome.Statement.{statement}
+use Rattle.listing.specs.Forms.{spell, bytes}
 use Rattle.listing.proofs.report.put_outcome.Tie as tie
-use Rattle.listing.proofs.report.put_outcome.Reads as reads
-use Rattle.listing.proofs.report.put_outcome.Lts as lts
-use Rattle.listing.proofs.forms.put_number.Reads as put-number-reads
-use Rattle.listing.proofs.forms.render.Reads as render-reads
-use Rattle.listing.proofs.report.width.Reads as width-reads
 
--- src/report.rt:55:9
 width-requires : tie.Need-width-requires
 width-requires c κs = search needs
 
--- src/report.rt:56:21
 slice-aggregate-render : tie.Need-slice-aggregate-render
 slice-aggregate-render c = search needs
 
--- src/report.rt:56:30
 slice-aggregate-render-2 : tie.Need-slice-aggregate-render-2
 slice-aggregate-render-2 c = search needs
 
--- src/report.rt:56:9
 render-requires : tie.Need-render-requires
 unfolding bytes spell
 render-requires c κs = (omega arith, rw answer-widest (omega (arith, c .before .before .before .before .before .pre)))
 
--- src/report.rt:57:5
 put-number-requires : tie.Need-put-number-requires
 unfolding bytes spell
 put-number-requires c κs = (omega (arith, c .before .before .before .before .before .before .before .before .before .pre, c .before .before .before .before .before .before .before .width .ensures .1, c .before .before .before .render .kept .1 .1 .1 .0, c .before .before .before .render .ensures .within, answer-widest), omega arith, omega arith)
 
--- src/report.rt:58:12
 slice-aggregate-render-3 : tie.Need-slice-aggregate-render-3
 slice-aggregate-render-3 c = search needs
 
--- src/report.rt:58:22
 slice-aggregate-render-4 : tie.Need-slice-aggregate-render-4
 slice-aggregate-render-4 c = search needs
 
--- src/report.rt:58:40
 add-render : tie.Need-add-render
 unfolding bytes spell
 add-render c = omega (arith, c .before .before .before .before .before .before .before .before .before .before .before .before .before .width .ensures .1, c .before .before .before .before .before .before .before .before .before .render .ensures .within, answer-widest)
 
--- src/report.rt:58:5
 render-requires-2 : tie.Need-render-requires-2
 unfolding bytes spell
 render-requires-2 c κs = (omega arith, rw outcome-widest (omega (arith, c .before .before .before .before .before .before .before .before .before .before .before .before .before .before .before .pre, c .before .before .before .before .before .before .before .before .before .before .before .before .before .width .ensures .1, c .before .before .before .before .before .before .before .before .before .render .kept .1 .1 .1 .0, c .before .before .before .before .before .put-number .kept .0, c .before .before .before .before .before .before .before .before .before .render .ensures .within, answer-widest)))
 
--- src/report.rt:50:1
 same-length : tie.Need-same-length
 same-length c = search needs
 
--- src/report.rt:50:1
 returns : tie.Need-returns
 unfolding bytes spell
 returns c = let a = c .before .before .before .before .before .before .before .before .before .before .before .before .before .before .before .before .before .before .args in

@@ -1,33 +1,23 @@
-use Rattle.listing.proofs.Reports.{report-done, report-refused}
 use borrow.Author.Needs.{needs}
+use Rattle.listing.proofs.Reports.{report-done, report-refused}
 use Rattle.listing.proofs.report.put_report.Statement.{statement}
 use Rattle.listing.proofs.report.put_report.Tie as tie
-use Rattle.listing.proofs.report.put_report.Reads as reads
-use Rattle.listing.proofs.report.put_report.Lts as lts
-use Rattle.listing.proofs.report.put_changes.Reads as put-changes-reads
-use Rattle.listing.proofs.report.put_outcome.Reads as put-outcome-reads
 
--- src/report.rt:92:9
 put-outcome-requires : tie.Need-put-outcome-requires
 put-outcome-requires c κs = search needs
 
--- src/report.rt:94:9
 put-changes-requires : tie.Need-put-changes-requires
 put-changes-requires c κs = search needs
 
--- src/report.rt:94:9
 same-length : tie.Need-same-length
 same-length c = search needs
 
--- src/report.rt:94:9
 returns : tie.Need-returns
 returns c = report-done _ _ _ _ _ _ _ _ _ (c .before .before .before .before .before .before .before .put-outcome .ensures) _ _ (c .before .before .before .before .if1 .taken) (c .before .before .put-changes .ensures)
 
--- src/report.rt:88:1
 same-length-2 : tie.Need-same-length-2
 same-length-2 c = search needs
 
--- src/report.rt:88:1
 returns-2 : tie.Need-returns-2
 returns-2 c = report-refused _ _ _ _ _ _ _ _ _ (c .before .before .before .put-outcome .ensures) (c .if1 .left)
 

@@ -1,13 +1,11 @@
-use mathlib.Core.Path.{refl, sym, ap, _∙_, _≡_}
 use Prim.Native.Nat.{ℕ, _≤_, _-_}
-use native.Mathlib.Omega.{arith}
 use borrow.Author.Needs.{needs}
-use Rattle.listing.specs.Report.{widthIn, widthOf}
+use mathlib.Core.Path.{refl, sym, ap, _∙_, _≡_}
+use native.Mathlib.Omega.{arith}
 use Rattle.listing.proofs.Reports.{power-at, width-here, width-down}
 use Rattle.listing.proofs.report.width.Statement.{statement}
+use Rattle.listing.specs.Report.{widthIn, widthOf}
 use Rattle.listing.proofs.report.width.Tie as tie
-use Rattle.listing.proofs.report.width.Reads as reads
-use Rattle.listing.proofs.report.width.Lts as lts
 
 abbrev Inv-loop : tie.InvT-loop
 Inv-loop n w₀ w = (w ≤ 10) × (widthOf n ≡ widthIn w n)
@@ -15,39 +13,30 @@ Inv-loop n w₀ w = (w ≤ 10) × (widthOf n ≡ widthIn w n)
 abbrev μ-loop : tie.MeasureT-loop
 μ-loop n w₀ w = w
 
--- src/report.rt:32:5
 loop-holds : tie.Need-loop-holds Inv-loop μ-loop
 loop-holds c = (omega arith, refl)
 
--- src/report.rt:33:19
 sub-if1 : tie.Need-sub-if1 Inv-loop μ-loop
 sub-if1 c = search needs
 
--- src/report.rt:33:12
 mul-if1 : tie.Need-mul-if1 Inv-loop μ-loop
 mul-if1 c = search needs
 
--- src/report.rt:33:12
 array-read-if1 : tie.Need-array-read-if1 Inv-loop μ-loop
 array-read-if1 c = omega arith
 
--- src/report.rt:34:13
 returns : tie.Need-returns Inv-loop μ-loop
 returns c = (sym (c .before .before .loop .inv .1 ∙ width-here (c .before .before .loop .w) (c .before .before .before .args .n) (c .before .loop-test .taken) (rw (← power-at (c .before .before .loop .w - 1) (omega arith)) (c .if1 .taken))), c .before .before .loop .inv .0)
 
--- src/report.rt:36:9
 sub-w : tie.Need-sub-w Inv-loop μ-loop
 sub-w c = search needs
 
--- src/report.rt:32:5
 loop-less : tie.Need-loop-less Inv-loop μ-loop
 loop-less c = omega arith
 
--- src/report.rt:32:5
 loop-again : tie.Need-loop-again Inv-loop μ-loop
 loop-again c = (omega arith, c .before .before .loop .inv .1 ∙ width-down (c .before .before .loop .w) (c .before .before .before .args .n) (c .before .loop-test .taken) (rw (← power-at (c .before .before .loop .w - 1) (omega arith)) (c .if1 .left)))
 
--- src/report.rt:28:1
 returns-2 : tie.Need-returns-2 Inv-loop μ-loop
 unfolding widthIn
 returns-2 c = (sym (c .before .loop .inv .1 ∙ ap (λ (k : ℕ). widthIn k (c .before .before .args .n)) {x = c .before .loop .w} {y = 0} (omega arith)), omega arith)

@@ -1,15 +1,12 @@
 use Prim.Native.Nat.{_-_}
-use native.Mathlib.Omega.{arith}
 use borrow.Author.Needs.{needs}
-use Rattle.listing.specs.Forms.{spell, bytes}
+use native.Mathlib.Omega.{arith}
 use Rattle.listing.proofs.Readers.{line-form}
 use Rattle.listing.proofs.Writers.{putting-start, putting-room, putting-more, putting-end, Putting}
-use Rattle.runner.specs.Checks.{countOf}
 use Rattle.listing.proofs.writer.put_lines.Statement.{statement}
+use Rattle.listing.specs.Forms.{spell, bytes}
+use Rattle.runner.specs.Checks.{countOf}
 use Rattle.listing.proofs.writer.put_lines.Tie as tie
-use Rattle.listing.proofs.writer.put_lines.Reads as reads
-use Rattle.listing.proofs.writer.put_lines.Lts as lts
-use Rattle.listing.proofs.forms.render.Reads as render-reads
 
 abbrev Inv-loop : tie.InvT-loop
 Inv-loop list page₀ place count at₀ k₀ t7 page at k = Putting list place (countOf list) page₀ t7 page at k
@@ -17,40 +14,31 @@ Inv-loop list page₀ place count at₀ k₀ t7 page at k = Putting list place (
 abbrev μ-loop : tie.MeasureT-loop
 μ-loop list page₀ place count at₀ k₀ t7 page at k = countOf list - k
 
--- src/writer.rt:47:5
 loop-holds : tie.Need-loop-holds Inv-loop μ-loop
 unfolding bytes spell
 loop-holds c = putting-start _ _ _ _ _ line-form
 
--- src/writer.rt:48:21
 slice-aggregate-render : tie.Need-slice-aggregate-render Inv-loop μ-loop
 slice-aggregate-render c = search needs
 
--- src/writer.rt:48:34
 mul-render : tie.Need-mul-render Inv-loop μ-loop
 mul-render c = search needs
 
--- src/writer.rt:48:9
 render-requires : tie.Need-render-requires Inv-loop μ-loop
 render-requires c κs = (omega arith, putting-room _ _ _ _ _ _ _ _ (c .before .before .before .loop .inv) (omega (arith, c .before .before .before .before .before .before .pre .0)) (c .before .before .before .before .before .before .pre .1) (c .before .before .loop-test .taken))
 
--- src/writer.rt:49:9
 add-k : tie.Need-add-k Inv-loop μ-loop
 add-k c = search needs
 
--- src/writer.rt:47:5
 loop-less : tie.Need-loop-less Inv-loop μ-loop
 loop-less c = omega arith
 
--- src/writer.rt:47:5
 loop-again : tie.Need-loop-again Inv-loop μ-loop
 loop-again c = putting-more _ _ _ _ _ _ _ _ (c .before .before .before .before .before .before .loop .inv) (c .before .before .render .result) (c .before .before .render .last .1 .1 .1 .0) (c .before .before .before .before .before .loop-test .taken) (c .before .before .render .ensures) (c .before .before .render .kept .1 .1 .1 .0)
 
--- src/writer.rt:40:1
 same-length : tie.Need-same-length Inv-loop μ-loop
 same-length c = c .before .loop .inv .same
 
--- src/writer.rt:40:1
 returns : tie.Need-returns Inv-loop μ-loop
 returns c = putting-end _ _ _ _ _ _ _ _ (c .before .loop .inv) (c .loop-test .left) (omega (arith, c .before .before .before .before .pre .0))
 

@@ -1,49 +1,36 @@
+use borrow.Author.Needs.{needs}
 use mathlib.Core.Path.{ap}
 use native.Mathlib.Omega.{arith}
-use Rattle.listing.specs.Forms.{spell, bytes}
-use Rattle.listing.specs.Places.{widest}
 use Rattle.listing.proofs.Readers.{header-form}
 use Rattle.listing.proofs.Writers.{header-widest, listing-grows}
-use borrow.Author.Needs.{needs}
 use Rattle.listing.proofs.writer.put_listing.Statement.{statement}
+use Rattle.listing.specs.Forms.{spell, bytes}
+use Rattle.listing.specs.Places.{widest}
 use Rattle.listing.proofs.writer.put_listing.Tie as tie
-use Rattle.listing.proofs.writer.put_listing.Reads as reads
-use Rattle.listing.proofs.writer.put_listing.Lts as lts
-use Rattle.listing.proofs.forms.render.Reads as render-reads
-use Rattle.listing.proofs.writer.header_of.Reads as header-of-reads
-use Rattle.listing.proofs.writer.put_lines.Reads as put-lines-reads
 
--- src/writer.rt:59:17
 cast-count : tie.Need-cast-count
 cast-count c = search needs
 
--- src/writer.rt:60:21
 slice-aggregate-render : tie.Need-slice-aggregate-render
 slice-aggregate-render c = search needs
 
--- src/writer.rt:60:31
 header-of-requires : tie.Need-header-of-requires
 header-of-requires c κs = search needs
 
--- src/writer.rt:60:30
 slice-aggregate-render-2 : tie.Need-slice-aggregate-render-2
 slice-aggregate-render-2 c = search needs
 
--- src/writer.rt:60:9
 render-requires : tie.Need-render-requires
 unfolding bytes spell
 render-requires c κs = (omega arith, rw (header-form, header-widest) (omega (arith, c .before .before .before .before .before .before .pre .1)))
 
--- src/writer.rt:61:5
 put-lines-requires : tie.Need-put-lines-requires
 unfolding bytes spell
 put-lines-requires c κs = (c .before .before .before .before .before .before .before .before .before .before .pre .0, omega (arith, c .before .before .before .before .before .before .before .before .before .before .pre .1, c .before .before .before .render .kept .1 .1 .1 .0, c .before .before .before .render .ensures .within, ap widest header-form, header-widest))
 
--- src/writer.rt:55:1
 same-length : tie.Need-same-length
 same-length c = search needs
 
--- src/writer.rt:55:1
 returns : tie.Need-returns
 unfolding bytes spell
 returns c = let g = c .before .before .before .before .before .before .render .ensures .grown in

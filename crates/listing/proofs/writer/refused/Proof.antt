@@ -1,11 +1,8 @@
 use mathlib.Core.Path.{refl}
-use Rattle.listing.specs.Listing.{refusedWriting}
 use Rattle.listing.proofs.writer.refused.Statement.{statement}
+use Rattle.listing.specs.Listing.{refusedWriting}
 use Rattle.listing.proofs.writer.refused.Tie as tie
-use Rattle.listing.proofs.writer.refused.Reads as reads
-use Rattle.listing.proofs.writer.refused.Lts as lts
 
--- src/writer.rt:18:1
 returns : tie.Need-returns
 unfolding refusedWriting
 returns c = refl

@@ -1,63 +1,46 @@
-use mathlib.Core.Path.{refl, _∙_, _≡_}
+use borrow.Author.Needs.{needs}
 use lib.ListN.{length}
+use mathlib.Core.Path.{refl, _∙_, _≡_}
 use native.Mathlib.Omega.{arith}
-use Rattle.listing.specs.Listing.{listing, acceptedWriting}
 use Rattle.listing.proofs.Rooms.{grown-front}
 use Rattle.listing.proofs.Writers.{few-words, write-refused, write-short, write-done}
-use borrow.Author.Needs.{needs}
 use Rattle.listing.proofs.writer.write.Statement.{statement}
+use Rattle.listing.specs.Listing.{listing, acceptedWriting}
 use Rattle.listing.proofs.writer.write.Tie as tie
-use Rattle.listing.proofs.writer.write.Reads as reads
-use Rattle.listing.proofs.writer.write.Lts as lts
-use Rattle.listing.proofs.forms.copy_bytes.Reads as copy-bytes-reads
-use Rattle.listing.proofs.writer.put_listing.Reads as put-listing-reads
-use Rattle.listing.proofs.writer.refused.Reads as refused-reads
-use Rattle.runner.proofs.checks.list_answer.Reads as list-answer-reads
 
--- src/writer.rt:68:9
 list-answer-requires : tie.Need-list-answer-requires
 list-answer-requires c κs = search needs
 
--- src/writer.rt:70:9
 refused-requires : tie.Need-refused-requires
 refused-requires c κs = search needs
 
--- src/writer.rt:70:9
 returns : tie.Need-returns
 returns c = let e = write-refused (length (c .before .before .before .before .before .before .args .text .now)) (c .before .before .before .before .before .before .args .s) (c .before .before .before .before .before .before .args .list .now) (c .before .before .before .list-answer .result) (c .before .before .before .list-answer .ensures) (c .before .if1 .taken) in
     (rw e (c .refused .ensures), rw e refl)
 
--- src/writer.rt:73:34
 slice-aggregate-put-listing : tie.Need-slice-aggregate-put-listing
 slice-aggregate-put-listing c = search needs
 
--- src/writer.rt:73:9
 put-listing-requires : tie.Need-put-listing-requires
 put-listing-requires c κs = (few-words (c .before .before .before .before .before .before .args .s) (c .before .before .before .before .before .before .args .list .now) (rw (← (c .before .before .before .list-answer .ensures)) (c .before .if1 .left)), omega arith)
 
--- src/writer.rt:75:9
 refused-requires-2 : tie.Need-refused-requires-2
 refused-requires-2 c κs = search needs
 
--- src/writer.rt:75:9
 returns-2 : tie.Need-returns-2
 returns-2 c = let g = grown-front _ _ _ _ (c .before .before .before .put-listing .ensures) in
     let e = write-short (length (c .before .before .before .before .before .before .before .before .before .before .args .text .now)) (c .before .before .before .before .before .before .before .before .before .before .args .s) (c .before .before .before .before .before .before .before .before .before .before .args .list .now) (c .before .before .before .before .before .before .before .list-answer .result) (c .before .before .before .before .before .before .before .list-answer .ensures) (c .before .before .before .before .before .if1 .left) (omega (arith, c .before .before .before .put-listing .ensures .upTo)) in
     (rw e (c .refused2 .ensures), rw e refl)
 
--- src/writer.rt:77:16
 slice-aggregate-copy-bytes : tie.Need-slice-aggregate-copy-bytes
 slice-aggregate-copy-bytes c = search needs
 
--- src/writer.rt:77:5
 copy-bytes-requires : tie.Need-copy-bytes-requires
 copy-bytes-requires c κs = (grown-front _ _ _ _ (c .before .before .before .before .put-listing .ensures) .1, omega arith)
 
--- src/writer.rt:65:1
 same-length : tie.Need-same-length
 same-length c = search needs
 
--- src/writer.rt:65:1
 returns-3 : tie.Need-returns-3
 unfolding acceptedWriting
 returns-3 c = let g = c .before .before .before .before .before .before .before .put-listing .ensures in

@@ -20,6 +20,9 @@ valued-rows-requires-5 c κs = search needs
 valued-rows-requires-6 : tie.Need-valued-rows-requires-6
 valued-rows-requires-6 c κs = search needs
 
+valued-rows-requires-7 : tie.Need-valued-rows-requires-7
+valued-rows-requires-7 c κs = search needs
+
 same-length : tie.Need-same-length
 same-length c = search needs
 
@@ -54,7 +57,13 @@ same-length-6 : tie.Need-same-length-6
 same-length-6 c = search needs
 
 returns-6 : tie.Need-returns-6
-returns-6 c = c .before .before .valued-rows6 .ensures
+returns-6 c = rw (c .before .before .before .before .match .keys6) (c .before .before .valued-rows6 .ensures)
+
+same-length-7 : tie.Need-same-length-7
+same-length-7 c = search needs
+
+returns-7 : tie.Need-returns-7
+returns-7 c = c .before .before .valued-rows7 .ensures
 
 pub valued-by-op-spec : {M : Type 1} → statement M
 valued-by-op-spec =
@@ -66,6 +75,7 @@ valued-by-op-spec =
     valued-rows-requires-4
     valued-rows-requires-5
     valued-rows-requires-6
+    valued-rows-requires-7
     same-length
     returns
     same-length-2
@@ -77,4 +87,6 @@ valued-by-op-spec =
     same-length-5
     returns-5
     same-length-6
-    returns-6)
+    returns-6
+    same-length-7
+    returns-7)

@@ -1,9 +1,9 @@
 use borrow.Author.Needs.{needs}
 use mathlib.Core.Path.{refl}
 use Rattle.lane.proofs.Cases.{if-true, if-false}
-use Rattle.lane.proofs.step.lane_answer.Statement.{statement}
+use Rattle.lane.proofs.refuse.lane_answer.Statement.{statement}
 use Rattle.lane.specs.Refusals.{laneAnswer, pass}
-use Rattle.lane.proofs.step.lane_answer.Tie as tie
+use Rattle.lane.proofs.refuse.lane_answer.Tie as tie
 
 settings-good-requires : tie.Need-settings-good-requires
 settings-good-requires c κs = search needs
