@@ -1,0 +1,58 @@
+-- The length that a reading or a writing returns is small. Assumes nothing.
+use Prim.Native.Nat.{ℕ, _≤_}
+use mathlib.Core.Path.{_≡_, refl}
+use mathlib.Core.Bool.{Bool, true, false}
+use mathlib.Core.List.{List}
+use borrow.Author.Tests.{eqb-true}
+use native.Mathlib.Omega.{arith}
+use Rattle.lane.specs.declared.Settings.{Settings}
+use Rattle.lane.specs.Words.{pick}
+use Rattle.listing.specs.declared.Reading.{Reading}
+use Rattle.listing.specs.declared.Writing.{Writing}
+use Rattle.listing.specs.Forms.{Scan, taken, faulty, scan}
+use Rattle.listing.specs.Listing.{header, lines, settingsOf, countIn, Read, Write, refusedReading, acceptedReading, readList, readRest, readHeader, readText, refusedWriting, acceptedWriting, writeList}
+use Rattle.listing.proofs.Writers.{accepted, few-words}
+use Rattle.listing.proofs.Held.{listing-short}
+
+read-either : (b : Bool) (x y : Read) (n : ℕ) → (b ≡ true → x .reading .length ≤ n) → y .reading .length ≤ n → pick b x y .reading .length ≤ n
+unfolding pick
+read-either true x y n h k = h refl
+read-either false x y n h k = k
+
+list-short : (room : ℕ) (s : Settings) (list : List ℕ) → readList room s list .reading .length ≤ 6144
+unfolding readList refusedReading acceptedReading
+list-short room s list =
+    read-either _ _ _ 6144 (λ e. read-either _ _ _ 6144 (λ _. few-words s list (eqb-true _ _ e)) (omega arith)) (omega arith)
+
+rest-short : (room : ℕ) (ns : List ℕ) (c : Scan) → readRest room ns c .reading .length ≤ 6144
+unfolding readRest refusedReading
+rest-short room ns (faulty k) = omega arith
+rest-short room ns (taken list extra) = read-either _ _ _ 6144 (λ _. list-short room (settingsOf ns) list) (omega arith)
+
+header-short : (room : ℕ) (c : Scan) → readHeader room c .reading .length ≤ 6144
+unfolding readHeader refusedReading
+header-short room (faulty k) = omega arith
+header-short room (taken ns rest) =
+    read-either _ _ _ 6144 (λ _. rest-short room ns (scan (lines (countIn ns)) rest)) (omega arith)
+
+read-short : (room : ℕ) (t : List ℕ) → readText room t .reading .length ≤ 6144
+unfolding readText refusedReading
+read-short room t = read-either _ _ _ 6144 (λ _. header-short room (scan header t)) (omega arith)
+
+pub read-fits : (room : ℕ) (t : List ℕ) (r : Reading) → r ≡ readText room t .reading → r .length ≤ 6144
+read-fits room t r e = rw e (read-short room t)
+
+write-either : (b : Bool) (x y : Write) (n : ℕ) → (b ≡ true → x .writing .length ≤ n) → y .writing .length ≤ n → pick b x y .writing .length ≤ n
+unfolding pick
+write-either true x y n h k = h refl
+write-either false x y n h k = k
+
+write-short : (room : ℕ) (s : Settings) (list : List ℕ) → writeList room s list .writing .length ≤ 65536
+unfolding writeList refusedWriting acceptedWriting
+write-short room s list =
+    write-either _ _ _ 65536
+    (λ e. write-either _ _ _ 65536 (λ _. listing-short s list (accepted s list (eqb-true _ _ e) .few)) (omega arith))
+    (omega arith)
+
+pub write-fits : (room : ℕ) (s : Settings) (list : List ℕ) (r : Writing) → r ≡ writeList room s list .writing → r .length ≤ 65536
+write-fits room s list r e = rw e (write-short room s list)

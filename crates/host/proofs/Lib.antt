@@ -1,0 +1,4 @@
+-- Laws behind the host's answers.
+pub mod Told
+pub mod Lengths
+pub mod Registers

@@ -1,0 +1,50 @@
+-- What the layers below told, of the records made from a host's words. Assumes nothing.
+use Prim.Native.Nat.{ℕ}
+use mathlib.Core.Path.{_≡_, ap}
+use mathlib.Core.List.{List}
+use Rattle.lane.specs.declared.Settings.{Settings}
+use Rattle.lane.specs.declared.Insn.{Insn}
+use Rattle.lane.specs.declared.Stepped.{Stepped}
+use Rattle.lane.specs.Refusals.{laneStep}
+use Rattle.runner.specs.declared.Outcome.{Outcome}
+use Rattle.runner.specs.Run.{outcomeOf, runImage}
+use Rattle.listing.specs.declared.Reading.{Reading}
+use Rattle.listing.specs.declared.Writing.{Writing}
+use Rattle.listing.specs.Listing.{readText, writeList, inFront}
+use Rattle.host.specs.Words.{outcomeWords, settingsWords, readingWords, writingWords}
+
+pub told-run :
+    (s t : Settings) (image dst list left : List ℕ) (o : Outcome)
+    → s ≡ t
+    → (o ≡ outcomeOf s image dst list) × (left ≡ runImage s image dst list)
+    → (o .answer ≡ outcomeOf t image dst list .answer)
+    × ((outcomeWords o ≡ outcomeWords (outcomeOf t image dst list)) × (left ≡ runImage t image dst list))
+told-run s t image dst list left o e h =
+    rw (← e) (ap (λ (x : Outcome). x .answer) (h .0), (ap outcomeWords (h .0), h .1))
+
+pub told-lane :
+    (s t : Settings) (L : ℕ) (i j : Insn) (own head : List ℕ) (even odd : ℕ) (o : Stepped)
+    → s ≡ t
+    → i ≡ j
+    → o ≡ laneStep s L i own head even odd
+    → (o .answer ≡ laneStep t L j own head even odd .answer) × (o .words ≡ laneStep t L j own head even odd .words)
+told-lane s t L i j own head even odd o e f h =
+    rw (← e, ← f) (ap (λ (x : Stepped). x .answer) h, ap (λ (x : Stepped). x .words) h)
+
+pub told-read :
+    (room : ℕ) (text list left : List ℕ) (r : Reading)
+    → (r ≡ readText room text .reading) × (left ≡ inFront (readText room text .list) list)
+    → (r .answer ≡ readText room text .reading .answer)
+    × ((settingsWords (r .settings) ≡ settingsWords (readText room text .reading .settings))
+    × ((readingWords r ≡ readingWords (readText room text .reading)) × (left ≡ inFront (readText room text .list) list)))
+told-read room text list left r h =
+    (ap (λ (x : Reading). x .answer) (h .0), (ap (λ (x : Reading). settingsWords (x .settings)) (h .0), (ap readingWords (h .0), h .1)))
+
+pub told-write :
+    (s t : Settings) (room : ℕ) (list text left : List ℕ) (r : Writing)
+    → s ≡ t
+    → (r ≡ writeList room s list .writing) × (left ≡ inFront (writeList room s list .bytes) text)
+    → (r .answer ≡ writeList room t list .writing .answer)
+    × ((writingWords r ≡ writingWords (writeList room t list .writing)) × (left ≡ inFront (writeList room t list .bytes) text))
+told-write s t room list text left r e h =
+    rw (← e) (ap (λ (x : Writing). x .answer) (h .0), (ap writingWords (h .0), h .1))

@@ -1,0 +1,50 @@
+-- How a host lays out in words what the layers below take and return as records.
+use Prim.Native.Nat.{ℕ}
+use mathlib.Core.List.{List, [], _∷_}
+use lib.ListN.{getD}
+use Rattle.lane.specs.declared.Settings.{Settings}
+use Rattle.lane.specs.declared.Insn.{Insn}
+use Rattle.runner.specs.declared.Outcome.{Outcome}
+use Rattle.listing.specs.declared.Reading.{Reading}
+use Rattle.listing.specs.declared.Writing.{Writing}
+
+-- Eight words are a run's settings, in the listing's order.
+unfoldable pub settingsOf : List ℕ → Settings
+settingsOf ws =
+    record {
+      edition = getD ws 0 0;
+      srcb = getD ws 1 0;
+      offset = getD ws 2 0;
+      cursor = getD ws 3 0;
+      stride0 = getD ws 4 0;
+      stride1 = getD ws 5 0;
+      stride2 = getD ws 6 0;
+      stride3 = getD ws 7 0;
+    }
+
+-- Six words are an instruction, in the list's order.
+unfoldable pub insnOf : List ℕ → Insn
+insnOf ws =
+    record {
+      op = getD ws 0 0;
+      imm = getD ws 1 0;
+      vb = getD ws 2 0;
+      vc = getD ws 3 0;
+      vd = getD ws 4 0;
+      md = getD ws 5 0;
+    }
+
+-- An outcome is four words: answer, steps, place, cursor.
+unfoldable pub outcomeWords : Outcome → List ℕ
+outcomeWords o = o .answer ∷ (o .steps ∷ (o .place ∷ (o .cursor ∷ [])))
+
+-- Settings as eight words, and what a reading and a writing return as five: answer, steps, place, cursor, length.
+unfoldable pub settingsWords : Settings → List ℕ
+settingsWords s =
+    s .edition ∷ (s .srcb ∷ (s .offset ∷ (s .cursor ∷ (s .stride0 ∷ (s .stride1 ∷ (s .stride2 ∷ (s .stride3 ∷ [])))))))
+
+unfoldable pub readingWords : Reading → List ℕ
+readingWords r = r .answer ∷ (r .steps ∷ (r .place ∷ (r .cursor ∷ (r .length ∷ []))))
+
+unfoldable pub writingWords : Writing → List ℕ
+writingWords r = r .answer ∷ (r .steps ∷ (r .place ∷ (r .cursor ∷ (r .length ∷ []))))

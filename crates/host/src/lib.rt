@@ -1,0 +1,181 @@
+// The replay for C and Rust hosts: what a host lends is laid out in words, and each function answers by the layers below.
+//
+// Every function here is total: it has a promise that settles its answer and every lent word, and no `requires`.
+use lane::Insn;
+use lane::Settings;
+use lane::step::step_lane;
+use listing::reader::read;
+use listing::writer::write;
+use runner::run::run;
+ghost use mathlib.Core.Path.{_≡_};
+ghost use lib.ListN.{length};
+ghost use Rattle.lane.specs.Refusals.{laneStep};
+ghost use Rattle.runner.specs.Run.{outcomeOf, runImage};
+ghost use Rattle.listing.specs.Listing.{readText, writeList, inFront};
+ghost use Rattle.host.specs.Words.{settingsOf, settingsWords, insnOf, outcomeWords, readingWords, writingWords};
+ghost use Rattle.host.specs.View.{inView, registerStart, registerCount};
+
+// A run's settings, from eight words in the listing's order.
+fn settings_of(words: &[u32; 8]) -> Settings
+    ensures { λ r. ⌜ r ≡ settingsOf (now (words .entry)) ⌝ }
+{
+    Settings {
+        edition: words[0],
+        srcb: words[1],
+        offset: words[2],
+        cursor: words[3],
+        stride0: words[4],
+        stride1: words[5],
+        stride2: words[6],
+        stride3: words[7],
+    }
+}
+
+// An instruction, from six words in the list's order.
+fn insn_of(words: &[u32; 6]) -> Insn
+    ensures { λ r. ⌜ r ≡ insnOf (now (words .entry)) ⌝ }
+{
+    Insn {
+        op: words[0],
+        imm: words[1],
+        vb: words[2],
+        vc: words[3],
+        vd: words[4],
+        md: words[5],
+    }
+}
+
+// A run of a list over an image and a Dst. The answer is returned, and stands first in `outcome`.
+#[no_mangle]
+pub extern "C" fn replay_run(
+    settings: &[u32; 8],
+    image: &mut [u32],
+    dst: &[u16],
+    list: &[u32],
+    outcome: &mut [u32; 4],
+) -> u32
+    ensures { λ r. ⌜ r ≡ outcomeOf (settingsOf (now (settings .entry))) (now (image .entry)) (now (dst .entry)) (now (list .entry)) .answer ⌝ }
+    ensures { λ _. ⌜ now (outcome .exit) ≡ outcomeWords (outcomeOf (settingsOf (now (settings .entry))) (now (image .entry)) (now (dst .entry)) (now (list .entry))) ⌝ }
+    ensures { λ _. ⌜ now (image .exit) ≡ runImage (settingsOf (now (settings .entry))) (now (image .entry)) (now (dst .entry)) (now (list .entry)) ⌝ }
+{
+    let o = run(settings_of(settings), image, dst, list);
+    *outcome = [o.answer, o.steps, o.place, o.cursor];
+    o.answer
+}
+
+// One instruction in one lane, by the lane rules: a refusal leaves the lane's words as they were.
+#[no_mangle]
+pub extern "C" fn replay_lane(
+    settings: &[u32; 8],
+    lane: u32,
+    insn: &[u32; 6],
+    own: &mut [u32; 24],
+    head: &[u32; 24],
+    even_cell: u16,
+    odd_cell: u16,
+) -> u32
+    ensures { λ r. ⌜ r ≡ laneStep (settingsOf (now (settings .entry))) lane (insnOf (now (insn .entry))) (now (own .entry)) (now (head .entry)) «even_cell» «odd_cell» .answer ⌝ }
+    ensures { λ _. ⌜ now (own .exit) ≡ laneStep (settingsOf (now (settings .entry))) lane (insnOf (now (insn .entry))) (now (own .entry)) (now (head .entry)) «even_cell» «odd_cell» .words ⌝ }
+{
+    let stepped = step_lane(
+        settings_of(settings),
+        lane,
+        insn_of(insn),
+        *own,
+        *head,
+        even_cell,
+        odd_cell,
+    );
+    let words = stepped.words;
+    *own = words;
+    stepped.answer
+}
+
+// A listing read: its settings, and its list in front of the lent room.
+#[no_mangle]
+pub extern "C" fn replay_read(
+    text: &[u8],
+    list: &mut [u32],
+    settings: &mut [u32; 8],
+    outcome: &mut [u32; 5],
+) -> u32
+    ensures { λ r. ⌜ r ≡ readText (length (now (list .entry))) (now (text .entry)) .reading .answer ⌝ }
+    ensures { λ _. ⌜ now (settings .exit) ≡ settingsWords (readText (length (now (list .entry))) (now (text .entry)) .reading .settings) ⌝ }
+    ensures { λ _. ⌜ now (outcome .exit) ≡ readingWords (readText (length (now (list .entry))) (now (text .entry)) .reading) ⌝ }
+    ensures { λ _. ⌜ now (list .exit) ≡ inFront (readText (length (now (list .entry))) (now (text .entry)) .list) (now (list .entry)) ⌝ }
+{
+    let got = read(text, list);
+    let s = got.settings;
+    *settings = [
+        s.edition,
+        s.srcb,
+        s.offset,
+        s.cursor,
+        s.stride0,
+        s.stride1,
+        s.stride2,
+        s.stride3,
+    ];
+    *outcome = [
+        got.answer,
+        got.steps,
+        got.place,
+        got.cursor,
+        got.length as u32,
+    ];
+    got.answer
+}
+
+// Settings and a list written as a listing, in front of the lent room.
+#[no_mangle]
+pub extern "C" fn replay_write(
+    settings: &[u32; 8],
+    list: &[u32],
+    text: &mut [u8],
+    outcome: &mut [u32; 5],
+) -> u32
+    ensures { λ r. ⌜ r ≡ writeList (length (now (text .entry))) (settingsOf (now (settings .entry))) (now (list .entry)) .writing .answer ⌝ }
+    ensures { λ _. ⌜ now (outcome .exit) ≡ writingWords (writeList (length (now (text .entry))) (settingsOf (now (settings .entry))) (now (list .entry)) .writing) ⌝ }
+    ensures { λ _. ⌜ now (text .exit) ≡ inFront (writeList (length (now (text .entry))) (settingsOf (now (settings .entry))) (now (list .entry)) .bytes) (now (text .entry)) ⌝ }
+{
+    let put = write(settings_of(settings), list, text);
+    *outcome = [
+        put.answer,
+        put.steps,
+        put.place,
+        put.cursor,
+        put.length as u32,
+    ];
+    put.answer
+}
+
+// Whether there is something to see of a register in an image of `size` words.
+fn in_view(size: usize, register: u32) -> bool
+    ensures { λ r. ⌜ r ≡ inView size register ⌝ }
+{
+    (size == 768) & ((register < 8) | ((10 < register) & (register < 15)))
+}
+
+// Where a register's words start in an image of `size` words.
+#[no_mangle]
+pub extern "C" fn replay_register_start(size: usize, register: u32) -> usize
+    ensures { λ r. ⌜ r ≡ registerStart size register ⌝ }
+{
+    if in_view(size, register) {
+        if register < 8 {
+            32 * (register as usize)
+        } else {
+            32 * (register as usize - 3)
+        }
+    } else {
+        0
+    }
+}
+
+// How many words a register has in an image of `size` words: one for each lane, or none.
+#[no_mangle]
+pub extern "C" fn replay_register_count(size: usize, register: u32) -> usize
+    ensures { λ r. ⌜ r ≡ registerCount size register ⌝ }
+{
+    if in_view(size, register) { 32 } else { 0 }
+}
