@@ -1,0 +1,47 @@
+-- `byte_checksum`: within the bytes.
+use Prim.Native.Nat.{_≤_, _-_}
+use borrow.Author.Needs.{needs}
+use lib.ListN.{length}
+use Rattle.vectors.proofs.lines.byte_checksum.Statement.{statement}
+use Rattle.vectors.proofs.lines.byte_checksum.Tie as tie
+
+abbrev Inv-loop : tie.InvT-loop
+Inv-loop bytes h₀ i₀ h i = i ≤ length bytes
+
+abbrev μ-loop : tie.MeasureT-loop
+μ-loop bytes h₀ i₀ h i = length bytes - i
+
+loop-holds : tie.Need-loop-holds Inv-loop μ-loop
+loop-holds c = search needs
+
+shared-slice-read-byte-mixed : tie.Need-shared-slice-read-byte-mixed Inv-loop μ-loop
+shared-slice-read-byte-mixed c = search needs
+
+byte-mixed-requires : tie.Need-byte-mixed-requires Inv-loop μ-loop
+byte-mixed-requires c κs = search needs
+
+add-i : tie.Need-add-i Inv-loop μ-loop
+add-i c = search needs
+
+loop-less : tie.Need-loop-less Inv-loop μ-loop
+loop-less c = search needs
+
+loop-again : tie.Need-loop-again Inv-loop μ-loop
+loop-again c = search needs
+
+returns : tie.Need-returns Inv-loop μ-loop
+returns c = search needs
+
+pub byte-checksum-spec : {M : Type 1} → statement M
+byte-checksum-spec =
+    tie.close
+    (tie.spec
+    Inv-loop
+    μ-loop
+    loop-holds
+    shared-slice-read-byte-mixed
+    byte-mixed-requires
+    add-i
+    loop-less
+    loop-again
+    returns)
