@@ -62,6 +62,9 @@ fn scanned(list: &[u32]) -> Found
     }
 }
 
+// The most instructions a list may hold.
+const LIST_LIMIT: usize = 1024;
+
 // The checks of a list alone: 3, 4, 5, then 7, 8 and 9.
 pub fn list_answer(s: Settings, list: &[u32]) -> Found
     ensures { λ r. ⌜ r ≡ Checks.listAnswer s (now (list .entry)) ⌝ }
@@ -73,7 +76,7 @@ pub fn list_answer(s: Settings, list: &[u32]) -> Found
                 place: 0,
             };
         }
-        if 1024 < list.len() / 6 {
+        if LIST_LIMIT < list.len() / 6 {
             return Found {
                 answer: 5,
                 place: 0,
@@ -118,7 +121,7 @@ fn run_list_answer(s: Settings, image: &[u32], list: &[u32]) -> Found
                 place: 0,
             };
         }
-        if 1024 < list.len() / 6 {
+        if LIST_LIMIT < list.len() / 6 {
             return Found {
                 answer: 5,
                 place: 0,
