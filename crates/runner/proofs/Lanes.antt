@@ -1,6 +1,6 @@
 -- Images as 32 lanes: what a store in place makes of them, and one law for every loop over the lanes. Assumes nothing.
-use mathlib.Core.Path.{_≡_, refl, sym, ap, _∙_, fun-ext, subst}
-use Prim.Native.Nat.{ℕ, zero, suc, _+_, _-_, _*_, _/_, _%_, _<_, _≤_}
+use mathlib.Core.Path.{_≡_, refl, sym, ap, _∙_, fun-ext}
+use Prim.Native.Nat.{ℕ, _+_, _-_, _*_, _/_, _%_, _<_, _≤_}
 use native.Mathlib.Omega.{arith}
 use native.Mathlib.Decide.{decLe, ℕ-discrete}
 use native.Mathlib.Nat.{lt-of-not-le}
@@ -13,8 +13,8 @@ use borrow.Author.Tests.{eq-eqb, ne-eqb, lt-ltb, le-ltb}
 use Rattle.lane.specs.Words.{pick, Lane, Stores, build, upd, after}
 use Rattle.lane.proofs.Cases.{pick-true, pick-false}
 use Rattle.lane.proofs.Stores.{length-build, getD-build, build-same, upd-same, upd-other, after-agree, after-append}
-use Rattle.runner.specs.Image.{laneIn, ofLanes, wordAt}
-use Rattle.runner.specs.Rows.{storing, storingIn, row}
+use Rattle.runner.specs.Image.{laneIn, ofLanes}
+use Rattle.runner.specs.Rows.{storing, storingIn}
 
 -- one order or the other
 pub split {ℓ} : {X : Type ℓ} (a b : ℕ) → (b ≤ a → X) → (a < b → X) → X
@@ -104,10 +104,6 @@ pub pick-append : (t : Bool) (a b : Stores) → pick t a [] ++ pick t b [] ≡ p
 unfolding pick
 pick-append true a b = refl
 pick-append false a b = refl
-
-pub length-storing-in : (image : List ℕ) (L : ℕ) (made : Stores) → length (storingIn image L made) ≡ 768
-unfolding storingIn
-length-storing-in image L made = length-storing image (λ M. pick (eqb M L) made [])
 
 pub storing-in-then : (image : List ℕ) (L : ℕ) (a b : Stores) → storingIn (storingIn image L a) L b ≡ storingIn image L (a ++ b)
 unfolding storingIn

@@ -1,12 +1,18 @@
 -- Laws of the checks, of images and loops over lanes, and what a run does to a column.
 pub mod Scan
+pub mod Masks
 pub mod Lanes
+pub mod Quick
 pub mod Filled
+pub mod Enabled
+pub mod Quiet
 pub mod Made
 pub mod Operands
-pub mod Loads
-pub mod Swaps
-pub mod LutConfig
+pub mod ComputeRows
+pub mod LoadRows
+pub mod SwapRows
+pub mod LutRows
+pub mod ConfigRows
 pub mod Steps
 pub mod Views
 pub mod Kept

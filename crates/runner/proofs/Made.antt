@@ -1,17 +1,14 @@
 -- What the stores under a test come to, for one lane and for all. Assumes nothing.
-use mathlib.Core.Path.{_≡_, refl, sym, ap, _∙_}
+use mathlib.Core.Path.{_≡_, sym, ap, _∙_}
 use Prim.Native.Nat.{ℕ, _<_, _≤_}
-use mathlib.Core.Bool.{Bool, true, false, _&&_}
-use mathlib.Core.List.{List, [], _∷_, _++_}
-use lib.ListN.{length}
-use lib.Dec.{eqb, ltb}
-use borrow.Author.Tests.{eq-eqb, ne-eqb, lt-ltb, le-ltb}
+use mathlib.Core.Bool.{Bool, _&&_}
+use mathlib.Core.List.{List, [], _∷_}
+use borrow.Author.Tests.{lt-ltb, le-ltb}
 use Rattle.lane.specs.Words.{pick, Lane, Stores, enabled}
 use Rattle.lane.specs.Compute.{computes, wordOnly, wordAndFlag}
-use Rattle.lane.proofs.Cases.{pick-true, pick-false}
-use Rattle.runner.specs.Image.{laneIn}
-use Rattle.runner.specs.Rows.{storing, storingIn, whole}
-use Rattle.runner.proofs.Lanes.{in-then, pick-append, storing-same, storing-none}
+use Rattle.lane.proofs.Cases.{pick-false}
+use Rattle.runner.specs.Rows.{storingIn}
+use Rattle.runner.proofs.Lanes.{in-then, pick-append}
 
 computes-is : (vd : ℕ) (own : Lane) (t : Bool) → vd < 8 → t ≡ enabled own → computes vd own ≡ t
 computes-is vd own t h e = ap (λ (b : Bool). b && enabled own) (lt-ltb vd 8 h) ∙ sym e
@@ -44,19 +41,3 @@ pub no-word-and-flag : (vd w f : ℕ) (own : Lane) → 8 ≤ vd → wordAndFlag 
 unfolding wordAndFlag
 no-word-and-flag vd w f own h =
     pick-false (computes vd own) ((vd, w) ∷ (13, f) ∷ []) [] (ap (λ (b : Bool). b && enabled own) (le-ltb vd 8 h))
-
--- ---- over all lanes, of an image of any length
-
-pub whole-done : (image x y : List ℕ) → length image ≡ 768 → x ≡ y → x ≡ whole image y
-unfolding whole
-whole-done image x y e p = p ∙ sym (pick-true (eqb (length image) 768) y image (eq-eqb (length image) 768 e))
-
-pub whole-same : (image x : List ℕ) (a b : ℕ → Stores) → length image ≡ 768 → x ≡ storing image a → ((L : ℕ) → L < 32 → a L ≡ b L) → x ≡ whole image (storing image b)
-whole-same image x a b e p h = whole-done image x (storing image b) e (p ∙ storing-same image a b h)
-
-pub whole-none : (image : List ℕ) (a : ℕ → Stores) → length image ≡ 768 → ((L : ℕ) → L < 32 → a L ≡ []) → image ≡ whole image (storing image a)
-whole-none image a e h = whole-done image image (storing image a) e (sym (storing-none image a e h))
-
-pub whole-not : (image y : List ℕ) → (length image ≡ 768 → ⊥) → image ≡ whole image y
-unfolding whole
-whole-not image y h = sym (pick-false (eqb (length image) 768) y image (ne-eqb (length image) 768 h))

@@ -1,19 +1,14 @@
 -- The scan over a list's instructions, turn by turn, and the well formed lanes. Assumes nothing.
-use mathlib.Core.Path.{_≡_, refl, sym, ap, _∙_}
-use Prim.Native.Nat.{ℕ, zero, suc, _+_, _-_, _/_, _<_, _≤_}
-use native.Mathlib.Numerals.{add-one}
+use mathlib.Core.Path.{_≡_, ap, _∙_}
+use Prim.Native.Nat.{ℕ, suc, _+_, _-_, _<_, _≤_}
 use native.Mathlib.Omega.{arith}
-use mathlib.Core.Bool.{Bool, true, _&&_}
+use mathlib.Core.Bool.{true}
 use mathlib.Core.List.{List}
-use lib.ListN.{length}
 use lib.Dec.{eqb}
 use borrow.Author.Tests.{eq-eqb, ne-eqb}
-use Rattle.lane.specs.Words.{pick}
-use Rattle.lane.specs.Refusals.{instructionAnswer, wellFormed}
+use Rattle.lane.specs.Refusals.{instructionAnswer}
 use Rattle.lane.proofs.Cases.{pick-true, pick-false}
-use Rattle.runner.specs.declared.Found.{Found}
 use Rattle.runner.specs.Checks.{insnAt, found, scan}
-use Rattle.runner.specs.Image.{laneIn, lanesGood}
 
 one-less : (n k : ℕ) → k < n → n - k ≡ suc (n - (k + 1))
 one-less n k h = omega arith
@@ -50,15 +45,3 @@ scan-start list n = ap (λ (m : ℕ). scan list 0 m) (whole n)
   where
     whole : (n : ℕ) → n ≡ n - 0
     whole n = omega arith
-
--- one lane more
-pub good-more : (image : List ℕ) (n : ℕ) → (lanesGood image n && wellFormed (laneIn image n)) ≡ lanesGood image (n + 1)
-unfolding lanesGood
-good-more image n = ap (λ (m : ℕ). lanesGood image m) (sym (add-one n))
-
-pub good-none : (image : List ℕ) → true ≡ lanesGood image 0
-unfolding lanesGood
-good-none image = refl
-
-pub good-all : (image : List ℕ) (n : ℕ) → n ≤ 32 → 32 ≤ n → lanesGood image n ≡ lanesGood image 32
-good-all image n h k = ap (λ (m : ℕ). lanesGood image m) (omega arith)

@@ -1,18 +1,19 @@
 -- One instruction over all lanes, the steps through a list, and what an accepted run was checked for. Assumes nothing.
 use mathlib.Core.Path.{_≡_, refl, sym, ap, _∙_}
-use Prim.Native.Nat.{ℕ, zero, suc, _+_, _/_, _%_, _<_, _≤_}
+use Prim.Native.Nat.{ℕ, zero, suc, _+_, _/_, _%_, _≤_}
 use native.Mathlib.Numerals.{add-one}
 use native.Mathlib.Omega.{arith}
-use mathlib.Core.Bool.{Bool, true, false, _&&_}
-use mathlib.Core.List.{List}
+use mathlib.Core.Bool.{Bool, true, false, _&&_, false≢true}
+use mathlib.Core.List.{List, []}
 use lib.ListN.{length}
-use lib.Dec.{eqb, ltb, leb}
-use borrow.Author.Tests.{eq-eqb, ne-eqb, lt-ltb, eqb-true, eqb-false, leb-true}
+use lib.Dec.{eqb, leb}
+use borrow.Author.Tests.{eq-eqb, ne-eqb, eqb-true, leb-true}
 use Rattle.lane.specs.declared.Settings.{Settings}
 use Rattle.lane.specs.declared.Insn.{Insn}
-use Rattle.lane.specs.Words.{pick, Stores, after}
-use Rattle.lane.specs.Load.{address}
-use Rattle.lane.specs.Rule.{storesOf}
+use Rattle.lane.specs.Words.{pick, bit, Lane, Stores, after}
+use Rattle.lane.specs.Load.{address, stride, nextCursor, load}
+use Rattle.lane.specs.Compute.{valueWord, valuedWith, valued}
+use Rattle.lane.specs.Rule.{lanewise, storesOf}
 use Rattle.lane.specs.Refusals.{settingsGood}
 use Rattle.lane.proofs.Cases.{pick-true, pick-false}
 use Rattle.runner.specs.declared.Found.{Found}
@@ -20,7 +21,10 @@ use Rattle.runner.specs.declared.Outcome.{Outcome}
 use Rattle.runner.specs.Image.{laneIn, imageGood}
 use Rattle.runner.specs.Checks.{insnAt, countOf, found, scanned, lengthsFirst, runListAnswer, runAnswer}
 use Rattle.runner.specs.Run.{Machine, evenCell, oddCell, laneAfter, imageAt, imageAfter, stepImage, cursorAfter, stepped, steps, finish, outcomeOf, runImage}
-use Rattle.runner.specs.Rows.{storing, whole, loaded768}
+use Rattle.runner.specs.Rows.{storing, enabledIn}
+use Rattle.runner.specs.StepRows.{Stored, Left, from}
+use Rattle.runner.proofs.Enabled.{Quiet, quiet-enabled}
+use Rattle.runner.proofs.Quiet.{quiet-load}
 use Rattle.runner.proofs.Lanes.{storing-same, storing-none, length-lanes}
 
 -- ---- one instruction
@@ -33,55 +37,91 @@ image-at-is : (s : Settings) (i : Insn) (a : ℕ) (image dst : List ℕ) → sto
 unfolding imageAt laneAfter storing
 image-at-is s i a image dst = refl
 
--- an operation's image is the instruction's if its stores are
-pub arm : (s : Settings) (i : Insn) (a : ℕ) (image dst x : List ℕ) (made : ℕ → Stores) → length image ≡ 768
-    → x ≡ whole image (storing image made)
-    → ((L : ℕ) → made L ≡ storesAt s i a image dst L)
-    → x ≡ imageAt s i a image dst
-unfolding whole
-arm s i a image dst x made e p h =
-    p ∙ pick-true (eqb (length image) 768) (storing image made) image (eq-eqb (length image) 768 e)
-    ∙ storing-same image made (storesAt s i a image dst) (λ L l. h L) ∙ image-at-is s i a image dst
+load-stores : (op : ℕ) (s : Settings) (a : ℕ) (i : Insn) (L : ℕ) (head : Lane) (even odd : ℕ) (own : Lane) → op ≡ 1
+    → load (s .srcb) a i L (bit (head 12) 5) even odd own ≡ storesOf op s a i L head even odd own
+unfolding storesOf lanewise pick
+load-stores op s a i L head even odd own e = simp e
 
-pub load-arm : (s : Settings) (i : Insn) (a : ℕ) (image dst x : List ℕ) (made : ℕ → Stores) → length image ≡ 768 → length dst ≡ 16384 → a < 1024
-    → x ≡ loaded768 image dst a (storing image made)
-    → ((L : ℕ) → made L ≡ storesAt s i a image dst L)
-    → x ≡ imageAt s i a image dst
-unfolding loaded768
-load-arm s i a image dst x made e k l p h =
-    p
-    ∙ pick-true (eqb (length image) 768 && (eqb (length dst) 16384 && ltb a 1024)) (storing image made) image
-    (ap (λ (b : Bool). b && (eqb (length dst) 16384 && ltb a 1024)) (eq-eqb (length image) 768 e)
-    ∙ ap (λ (b : Bool). b && ltb a 1024) (eq-eqb (length dst) 16384 k)
-    ∙ lt-ltb a 1024 l)
-    ∙ storing-same image made (storesAt s i a image dst) (λ L l. h L)
-    ∙ image-at-is s i a image dst
+-- an operation's image is the instruction's if its stores are, and the row of enabled lanes goes with it
+pub stored-arm : (s : Settings) (i : Insn) (image x go : List ℕ) (made : ℕ → Stores) → go ≡ enabledIn x → x ≡ storing image made
+    → ((a : ℕ) (dst : List ℕ) (L : ℕ) → made L ≡ storesAt s i a image dst L)
+    → Stored s i image x go
+stored-arm s i image x go made g p h =
+    record {
+      image-is = λ a dst. p ∙ storing-same image made (storesAt s i a image dst) (λ L l. h a dst L) ∙ image-at-is s i a image dst;
+      enabled-is = g;
+    }
 
-pub no-arm : (s : Settings) (i : Insn) (a : ℕ) (image dst : List ℕ) → length image ≡ 768 → ((L : ℕ) → storesAt s i a image dst L ≡ mathlib.Core.List.[]) → image ≡ imageAt s i a image dst
-no-arm s i a image dst e h = sym (storing-none image (storesAt s i a image dst) e (λ L l. h L)) ∙ image-at-is s i a image dst
+-- an operation that leaves the flags
+pub quiet-arm : (s : Settings) (i : Insn) (image x go : List ℕ) (made : ℕ → Stores) → go ≡ enabledIn image → x ≡ storing image made
+    → ((L : ℕ) → Quiet (made L))
+    → ((a : ℕ) (dst : List ℕ) (L : ℕ) → made L ≡ storesAt s i a image dst L)
+    → Stored s i image x go
+quiet-arm s i image x go made g p q h =
+    stored-arm s i image x go made (g ∙ quiet-enabled image made (λ L l. q L) ∙ ap enabledIn (sym p)) p h
 
-pub step-sized : (s : Settings) (i : Insn) (cursor : ℕ) (image dst x : List ℕ) → length image ≡ 768 → length dst ≡ 16384
+-- one that stores nothing
+pub no-arm : (s : Settings) (i : Insn) (image go : List ℕ) → length image ≡ 768 → go ≡ enabledIn image
+    → ((a : ℕ) (dst : List ℕ) (L : ℕ) → [] ≡ storesAt s i a image dst L)
+    → Stored s i image image go
+no-arm s i image go e g h = stored-arm s i image image go (λ L. []) g (sym (storing-none image (λ L. []) e (λ L l. refl))) h
+
+-- EXMAN's word is that of every op which has no other
+pub valued-rest : (op : ℕ) (i : Insn) (L : ℕ) (own : Lane) → (op ≡ 7 → ⊥) → (op ≡ 8 → ⊥) → (op ≡ 9 → ⊥) → (op ≡ 10 → ⊥) → (op ≡ 11 → ⊥)
+    → valued 14 i L own ≡ valued op i L own
+unfolding valued valuedWith valueWord pick
+valued-rest op i L own a b c d e = simp (ne-eqb op 7 a, ne-eqb op 8 b, ne-eqb op 9 c, ne-eqb op 10 d, ne-eqb op 11 e)
+
+-- the cursor, and the address that it gives
+pub stored-left : (s : Settings) (i : Insn) (cursor : ℕ) (image dst x go : List ℕ) → (i .op ≡ 1 → ⊥) → Stored s i image x go
+    → Left s i cursor image dst cursor x go
+unfolding imageAfter nextCursor
+stored-left s i cursor image dst x go n h =
+    record {
+      cursor-is = sym (pick-false (eqb (i .op) 1) _ cursor (ne-eqb (i .op) 1 n));
+      image-is = h .image-is (address (i .imm) (s .offset) cursor) dst;
+      enabled-is = h .enabled-is;
+    }
+
+pub load-left : (s : Settings) (i : Insn) (cursor a next : ℕ) (image dst x go : List ℕ) → i .op ≡ 1 → a ≡ address (i .imm) (s .offset) cursor
+    → next ≡ nextCursor 1 cursor (stride s (i .vb)) → go ≡ enabledIn image
+    → x ≡ storing image (λ L. load (s .srcb) a i L (bit (laneIn image (L % 8) 12) 5) (evenCell dst a L) (oddCell dst a L) (laneIn image L))
+    → Left s i cursor image dst next x go
+unfolding imageAfter nextCursor
+load-left s i cursor a next image dst x go o ea en g p =
+    record {
+      cursor-is = en ∙ ap (λ (n : ℕ). nextCursor n cursor (stride s (i .vb))) (sym o);
+      image-is =
+          p ∙ storing-same image _ (storesAt s i a image dst) (λ L l. is-load L) ∙ image-at-is s i a image dst
+          ∙ ap (λ (x : ℕ). imageAt s i x image dst) ea;
+      enabled-is = g ∙ quiet-enabled image _ (λ L l. quiet-load (s .srcb) a i L _ _ _ (laneIn image L)) ∙ ap enabledIn (sym p);
+    }
+  where
+    is-load : (L : ℕ)
+        → load (s .srcb) a i L (bit (laneIn image (L % 8) 12) 5) (evenCell dst a L) (oddCell dst a L) (laneIn image L) ≡ storesAt s i a image dst L
+    is-load L = load-stores (i .op) s a i L (laneIn image (L % 8)) (evenCell dst a L) (oddCell dst a L) (laneIn image L) o
+
+-- one instruction over an image and a Dst of any length
+pub both-sized : (a b : ℕ) → (eqb a 768 && eqb b 16384) ≡ true → (a ≡ 768) × (b ≡ 16384)
+both-sized a b h = (eqb-true a 768 (left (eqb a 768) (eqb b 16384) h), eqb-true b 16384 (right (eqb a 768) (eqb b 16384) h))
+  where
+    left : (p q : Bool) → (p && q) ≡ true → p ≡ true
+    left true q h = refl
+    left false q h = absurd (false≢true h)
+
+    right : (p q : Bool) → (p && q) ≡ true → q ≡ true
+    right true q h = h
+    right false q h = absurd (false≢true h)
+
+pub step-sized : (s : Settings) (i : Insn) (cursor : ℕ) (image dst x : List ℕ) → (eqb (length image) 768 && eqb (length dst) 16384) ≡ true
     → x ≡ imageAfter s i cursor image dst → x ≡ stepImage s i cursor image dst
 unfolding stepImage
-step-sized s i cursor image dst x e k p =
-    p ∙ sym (pick-true (eqb (length image) 768 && eqb (length dst) 16384) (imageAfter s i cursor image dst) image
-    (ap (λ (b : Bool). b && eqb (length dst) 16384) (eq-eqb (length image) 768 e) ∙ eq-eqb (length dst) 16384 k))
+step-sized s i cursor image dst x h p = p ∙ sym (pick-true (eqb (length image) 768 && eqb (length dst) 16384) (imageAfter s i cursor image dst) image h)
 
-pub step-no-dst : (s : Settings) (i : Insn) (cursor : ℕ) (image dst : List ℕ) → length image ≡ 768 → (length dst ≡ 16384 → ⊥) → image ≡ stepImage s i cursor image dst
+pub step-other : (s : Settings) (i : Insn) (cursor : ℕ) (image dst : List ℕ) → (eqb (length image) 768 && eqb (length dst) 16384) ≡ false
+    → image ≡ stepImage s i cursor image dst
 unfolding stepImage
-step-no-dst s i cursor image dst e k =
-    sym (pick-false (eqb (length image) 768 && eqb (length dst) 16384) (imageAfter s i cursor image dst) image
-    (ap (λ (b : Bool). b && eqb (length dst) 16384) (eq-eqb (length image) 768 e) ∙ ne-eqb (length dst) 16384 k))
-
-pub step-no-image : (s : Settings) (i : Insn) (cursor : ℕ) (image dst : List ℕ) → (length image ≡ 768 → ⊥) → image ≡ stepImage s i cursor image dst
-unfolding stepImage
-step-no-image s i cursor image dst e =
-    sym (pick-false (eqb (length image) 768 && eqb (length dst) 16384) (imageAfter s i cursor image dst) image
-    (ap (λ (b : Bool). b && eqb (length dst) 16384) (ne-eqb (length image) 768 e)))
-
-pub step-image-is : (s : Settings) (i : Insn) (cursor : ℕ) (image dst : List ℕ) → length image ≡ 768 → length dst ≡ 16384
-    → stepImage s i cursor image dst ≡ imageAfter s i cursor image dst
-step-image-is s i cursor image dst e k = sym (step-sized s i cursor image dst (imageAfter s i cursor image dst) e k refl)
+step-other s i cursor image dst h = sym (pick-false (eqb (length image) 768 && eqb (length dst) 16384) (imageAfter s i cursor image dst) image h)
 
 pub length-after : (s : Settings) (i : Insn) (cursor : ℕ) (image dst : List ℕ) → length (imageAfter s i cursor image dst) ≡ 768
 unfolding imageAfter imageAt
@@ -89,8 +129,11 @@ length-after s i cursor image dst = length-lanes (laneAfter s i (address (i .imm
 
 -- ---- the steps through a list
 
+abbrev pub starting : ℕ → List ℕ → List ℕ → Machine
+starting cursor image dst = record { image = image; dst = dst; cursor = cursor }
+
 abbrev pub begin : Settings → List ℕ → List ℕ → Machine
-begin s image dst = record { image = image; dst = dst; cursor = s .cursor }
+begin s image dst = starting (s .cursor) image dst
 
 pub steps-dst : (s : Settings) (list : List ℕ) (n : ℕ) (m : Machine) → steps s list n m .dst ≡ m .dst
 unfolding steps stepped
@@ -98,40 +141,56 @@ steps-dst s list zero m = refl
 steps-dst s list (suc n) m = steps-dst s list n m
 
 -- after k instructions
-pub record Reached (s : Settings) (list dst start : List ℕ) (k cursor : ℕ) (image : List ℕ) : Type 0 where
-  pub cursor-is : cursor ≡ steps s list k (begin s start dst) .cursor
-  pub image-is : image ≡ steps s list k (begin s start dst) .image
+pub record Reached (s : Settings) (list dst start : List ℕ) (first k cursor : ℕ) (image go : List ℕ) : Type 0 where
+  pub cursor-is : cursor ≡ steps s list k (starting first start dst) .cursor
+  pub image-is : image ≡ steps s list k (starting first start dst) .image
+  pub enabled-is : go ≡ enabledIn image
   pub long : length image ≡ 768
 
-pub reached-start : (s : Settings) (list dst start : List ℕ) → length start ≡ 768 → Reached s list dst start 0 (s .cursor) start
+pub reached-start : (s : Settings) (list dst start : List ℕ) (first : ℕ) (go : List ℕ) → length start ≡ 768 → go ≡ enabledIn start
+    → Reached s list dst start first 0 first start go
 unfolding steps
-reached-start s list dst start e = record { cursor-is = refl; image-is = refl; long = e }
+reached-start s list dst start first go e g = record { cursor-is = refl; image-is = refl; enabled-is = g; long = e }
 
-pub reached-more : (s : Settings) (list dst start : List ℕ) (k cursor : ℕ) (image : List ℕ) (i : Insn) (cursor′ : ℕ) (image′ : List ℕ)
-    → length dst ≡ 16384
-    → Reached s list dst start k cursor image
+pub reached-more : (s : Settings) (list dst start : List ℕ) (first k cursor : ℕ) (image go : List ℕ) (i : Insn) (cursor′ : ℕ) (image′ go′ : List ℕ)
+    → Reached s list dst start first k cursor image go
     → i ≡ insnAt list k
-    → cursor′ ≡ cursorAfter s i cursor
-    → image′ ≡ stepImage s i cursor image dst
-    → Reached s list dst start (k + 1) cursor′ image′
+    → Left s i cursor image dst cursor′ image′ go′
+    → Reached s list dst start first (k + 1) cursor′ image′ go′
 unfolding steps stepped
-reached-more s list dst start k cursor image i cursor′ image′ d h e p q =
+reached-more s list dst start first k cursor image go i cursor′ image′ go′ h e m =
     record {
       cursor-is =
-          p ∙ ap (λ (x : Insn). cursorAfter s x cursor) e ∙ ap (λ (x : ℕ). cursorAfter s (insnAt list k) x) (h .cursor-is)
-          ∙ ap (λ (n : ℕ). steps s list n (begin s start dst) .cursor) (sym (add-one k));
+          m .cursor-is ∙ ap (λ (x : Insn). cursorAfter s x cursor) e ∙ ap (λ (x : ℕ). cursorAfter s (insnAt list k) x) (h .cursor-is)
+          ∙ ap (λ (n : ℕ). steps s list n (starting first start dst) .cursor) (sym (add-one k));
       image-is =
-          made ∙ ap (λ (x : Insn). imageAfter s x cursor image dst) e
+          m .image-is ∙ ap (λ (x : Insn). imageAfter s x cursor image dst) e
           ∙ ap (λ (x : ℕ). imageAfter s (insnAt list k) x image dst) (h .cursor-is)
-          ∙ ap (λ (x : List ℕ). imageAfter s (insnAt list k) (steps s list k (begin s start dst) .cursor) x dst) (h .image-is)
-          ∙ ap (λ (x : List ℕ). imageAfter s (insnAt list k) (steps s list k (begin s start dst) .cursor) (steps s list k (begin s start dst) .image) x)
-          (sym (steps-dst s list k (begin s start dst)))
-          ∙ ap (λ (n : ℕ). steps s list n (begin s start dst) .image) (sym (add-one k));
-      long = ap length made ∙ length-after s i cursor image dst;
+          ∙ ap (λ (x : List ℕ). imageAfter s (insnAt list k) (steps s list k (starting first start dst) .cursor) x dst) (h .image-is)
+          ∙ ap (λ (x : List ℕ). imageAfter s (insnAt list k) (steps s list k (starting first start dst) .cursor) (steps s list k (starting first start dst) .image) x)
+          (sym (steps-dst s list k (starting first start dst)))
+          ∙ ap (λ (n : ℕ). steps s list n (starting first start dst) .image) (sym (add-one k));
+      enabled-is = m .enabled-is;
+      long = ap length (m .image-is) ∙ length-after s i cursor image dst;
     }
-  where
-    made : image′ ≡ imageAfter s i cursor image dst
-    made = q ∙ step-image-is s i cursor image dst (h .long) d
+
+-- at the end of the list
+pub reached-end : (s : Settings) (list dst start : List ℕ) (first k cursor : ℕ) (image go : List ℕ) → Reached s list dst start first k cursor image go
+    → k ≡ countOf list
+    → (cursor ≡ from s first start dst list .cursor) × (image ≡ from s first start dst list .image)
+reached-end s list dst start first k cursor image go h e = (
+  h .cursor-is ∙ ap (λ (n : ℕ). steps s list n (starting first start dst) .cursor) e,
+  h .image-is ∙ ap (λ (n : ℕ). steps s list n (starting first start dst) .image) e,
+)
+
+-- a list of one instruction
+pub one-step : (s : Settings) (i : Insn) (cursor : ℕ) (image dst list : List ℕ) → length list ≡ 6 → insnAt list 0 ≡ i
+    → (from s cursor image dst list .cursor ≡ cursorAfter s i cursor) × (from s cursor image dst list .image ≡ imageAfter s i cursor image dst)
+unfolding steps stepped
+one-step s i cursor image dst list e k = (
+  ap (λ (n : ℕ). steps s list (n / 6) (starting cursor image dst) .cursor) e ∙ ap (λ (x : Insn). cursorAfter s x cursor) k,
+  ap (λ (n : ℕ). steps s list (n / 6) (starting cursor image dst) .image) e ∙ ap (λ (x : Insn). imageAfter s x cursor image dst) k,
+)
 
 -- ---- the checks
 

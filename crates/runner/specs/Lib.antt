@@ -2,4 +2,12 @@
 pub mod Image
 pub mod Checks
 pub mod Run
+-- The vocabulary of the crate's private functions, which no promise rests on.
+pub mod Quick
 pub mod Rows
+pub mod ComputeRows
+pub mod LoadRows
+pub mod SwapRows
+pub mod LutRows
+pub mod ConfigRows
+pub mod StepRows

@@ -1,42 +1,124 @@
 // The checks, all tried before the first step.
 use crate::Found;
 use crate::insn_at;
+use crate::rows::word_at;
+use lane::Insn;
 use lane::Settings;
 use lane::refuse::instruction_answer;
 use lane::refuse::settings_good;
 use lane::refuse::well_formed;
+use lane::words::LANE_CONFIG;
+use lane::words::LANE_FLAG;
+use lane::words::MISC;
+use lane::words::USE_FLAG;
 ghost use mathlib.Core.Path.{_≡_};
-ghost use Prim.Native.Nat.{_+_, _*_, _<_, _≤_};
+ghost use mathlib.Core.Bool.{true};
+ghost use Prim.Native.Nat.{_%_, _<_, _≤_};
 ghost use lib.ListN.{length};
-ghost use Rattle.lane.specs.Refusals.{wellFormed};
+ghost use Rattle.lane.specs.Refusals.{instructionAnswer};
 ghost use Rattle.runner.specs.Image as Image;
 ghost use Rattle.runner.specs.Checks as Checks;
+ghost use Rattle.runner.specs.Quick as Quick;
 
-// Whether lane `n` of an image is well formed.
-fn lane_good(image: &[u32], n: usize) -> bool
-    requires { ⌜ (length (now image) ≡ 768) × (n < 32) ⌝ }
-    ensures { λ r. ⌜ r ≡ wellFormed (Image.laneIn (now (image .entry)) n) ⌝ }
-{
-    well_formed(
-        image[384 + n],
-        image[416 + n],
-        image[448 + n],
-        image[736 + n],
-    )
-}
-
-// Whether an image of 768 words is well formed.
+// Whether an image of 768 words is well formed: a bit too high in one lane's word is too high in the union of all lanes'.
 fn image_good(image: &[u32]) -> bool
     requires { ⌜ length (now image) ≡ 768 ⌝ }
     ensures { λ r. ⌜ r ≡ Image.imageGood (now (image .entry)) ⌝ }
 {
-    let mut good = true;
+    let mut config: u32 = 0;
+    let mut flag: u32 = 0;
+    let mut uses: u32 = 0;
+    let mut misc: u32 = 0;
     let mut n: usize = 0;
     while n < 32 {
-        good = good & lane_good(image, n);
+        config = config | word_at(image, LANE_CONFIG, n);
+        flag = flag | word_at(image, LANE_FLAG, n);
+        uses = uses | word_at(image, USE_FLAG, n);
+        misc = misc | word_at(image, MISC, n);
         n += 1;
     }
-    good
+    well_formed(config, flag, uses, misc)
+}
+
+// The bits that an instruction's fields may not have, two fields to a word, and the mods that are allowed without more ado: mod m as bit m where
+// vb is 0, as bit 16 + m where it isn't.
+struct Over {
+    left: u64,
+    middle: u64,
+    right: u64,
+    mods: u32,
+}
+
+// Two fields that stand side by side in a list.
+fn pair(a: u32, b: u32) -> u64
+    ensures { λ r. ⌜ r ≡ Quick.pair a b ⌝ }
+{
+    a as u64 + b as u64 * 0x1_0000_0000
+}
+
+// A row of the table below, from the largest imm, vb, vc and vd.
+fn over_row(imm: u32, vb: u32, vc: u32, vd: u32, mods: u32) -> Over
+    ensures { λ r. ⌜ r ≡ Quick.over imm vb vc vd mods ⌝ }
+{
+    Over {
+        left: pair(!15, !imm),
+        middle: pair(!vb, !vc),
+        right: pair(!vd, !15),
+        mods,
+    }
+}
+
+// The table for op 0, which is none, to 15.
+fn over_of(op: u32) -> Over
+    ensures { λ r. ⌜ r ≡ Quick.overOf (op % 16) ⌝ }
+{
+    let k = op % 16;
+    match k {
+        1 => over_row(1023, 3, 0, 15, 0xEBE7_EBE7),
+        2 => over_row(65535, 0, 0, 15, 0x0500),
+        3 => over_row(0, 0, 0, 15, 0x1111),
+        4 => over_row(0, 0, 15, 15, 0xFFFF),
+        5 => over_row(65535, 0, 0, 15, 0xFFFF),
+        6 => over_row(4095, 0, 15, 15, 0xFFFF),
+        7 => over_row(0, 0, 15, 15, 0x0003),
+        8 => over_row(0, 15, 15, 15, 0x2_0003),
+        9 => over_row(0, 15, 15, 15, 0x2_0003),
+        10 => over_row(0, 0, 15, 15, 0x0001),
+        11 => over_row(0, 0, 15, 15, 0x0001),
+        12 => over_row(0, 0, 15, 15, 0x5555),
+        13 => over_row(0, 0, 15, 15, 0x0F0F),
+        14 => over_row(0, 0, 15, 15, 0x0003),
+        15 => over_row(0, 0, 0, 0, 0x0001),
+        _ => over_row(0, 0, 0, 0, 0),
+    }
+}
+
+// Where that table has a mod.
+fn mod_place(m: u32, vb: u32) -> u32
+    ensures { λ r. ⌜ (r < 32) × (r ≡ Quick.modPlace m vb) ⌝ }
+{
+    if vb == 0 { m % 16 } else { m % 16 + 16 }
+}
+
+// Whether an instruction is plainly good.
+fn plain(i: Insn) -> bool
+    ensures { λ r. ⌜ r ≡ Quick.plain i ⌝ }
+{
+    let o = over_of(i.op);
+    let bad = (pair(i.op, i.imm) & o.left)
+        | (pair(i.vb, i.vc) & o.middle)
+        | (pair(i.vd, i.md) & o.right);
+    (bad == 0) & ((o.mods >> mod_place(i.md, i.vb)) % 2 == 1)
+}
+
+// 7, 8, 9 or 0 for an instruction. All but the refused are plainly good, and that is quickly seen.
+fn answer_of(i: Insn) -> u32
+    ensures { λ r. ⌜ r ≡ instructionAnswer true i ⌝ }
+{
+    if plain(i) {
+        return 0;
+    }
+    instruction_answer(true, i)
 }
 
 // The first refused instruction.
@@ -47,7 +129,7 @@ fn scanned(list: &[u32]) -> Found
     let count = list.len() / 6;
     let mut k: usize = 0;
     while k < count {
-        let answer = instruction_answer(true, insn_at(list, k));
+        let answer = answer_of(insn_at(list, k));
         if answer != 0 {
             return Found {
                 answer,

@@ -1,190 +1,181 @@
-// IADD, ABS, AND, OR, XOR, NOT, LZ, EXEXP and EXMAN over all lanes. vd is read in place: it is stored, or nothing is done.
-use crate::put_when;
-use crate::source;
+// IADD, ABS, AND, OR, XOR, NOT, LZ, EXEXP and EXMAN over all lanes: the row of vc, and of vb where it is read, is copied first, vd is read in
+// place. The op is a constant wherever a loop is called, so that each has a loop of its own once compiled.
+use crate::rows::full;
+use crate::rows::put;
+use crate::rows::source;
+use crate::rows::word_at;
 use lane::Insn;
-use lane::compute::exexp_flag;
 use lane::compute::exexp_word;
-use lane::compute::iadd_flag;
+use lane::compute::flag_after;
 use lane::compute::iadd_word;
-use lane::compute::lz_flag;
 use lane::compute::lz_word;
 use lane::compute::value_word;
+use lane::words::LANE_FLAG;
+use lane::words::USE_FLAG;
 use lane::words::enabled;
+use lane::words::keep;
 ghost use mathlib.Core.Path.{_≡_};
+ghost use mathlib.Core.Bool.{false, _||_};
 ghost use Prim.Native.Nat.{ℕ, _<_};
 ghost use lib.ListN.{length, getD};
 ghost use lib.Dec.{eqb};
-ghost use mathlib.Core.Bool.{_&&_, _||_};
-ghost use Rattle.lane.specs.Words.{Lane, has};
+ghost use Rattle.lane.specs.Words.{has, enabled};
 ghost use Rattle.lane.specs.Compute as Rules;
 ghost use Rattle.runner.specs.Image.{laneIn};
 ghost use Rattle.runner.specs.Rows as Rows;
+ghost use Rattle.runner.specs.ComputeRows as Compute;
 
-// An operation that computes a word alone, in lane `n`.
-fn valued_at(image: &mut [u32], n: usize, op: u32, i: Insn, b: u32, c: u32)
-    requires { ⌜ (length (now image) ≡ 768) × ((n < 32) × (i .vd < 8)) ⌝ }
-    ensures { λ _. ⌜ now (image .exit) ≡ Rows.storingIn (now (image .entry)) n (Rules.valuedWith op i b c (laneIn (now (image .entry)) n (i .vd)) (laneIn (now (image .entry)) n)) ⌝ }
+// The word that an operation computes. LZ's comes counted, in vc's place.
+fn word_of(op: u32, i: Insn, b: u32, c: u32, d: u32) -> u32
+    ensures { λ r. ⌜ r ≡ Compute.wordOf op i b c d ⌝ }
 {
-    let vd = i.vd as usize;
-    let test = enabled(image[448 + n], image[416 + n]);
-    let word = value_word(op, i.md, b, c, image[32 * vd + n]);
-    put_when(image, n, vd, test, word);
+    match op {
+        6 => iadd_word(i.md, i.imm, c, d),
+        12 => c,
+        13 => exexp_word(i.md, c),
+        _ => value_word(op, i.md, b, c, d),
+    }
 }
 
-fn valued_rows(image: &mut [u32], op: u32, i: Insn, b: &[u32; 32], c: &[u32; 32])
-    requires { ⌜ (length (now image) ≡ 768) × (i .vd < 8) ⌝ }
-    ensures { λ _. ⌜ now (image .exit) ≡ Rows.storing (now (image .entry)) (λ L. Rules.valuedWith op i (getD (now (b .entry)) L 0) (getD (now (c .entry)) L 0) (laneIn (now (image .entry)) L (i .vd)) (laneIn (now (image .entry)) L)) ⌝ }
+// The word stored to vd in lane `n`, whose mask is `mask`.
+fn word_put(image: &mut [u32], n: usize, op: u32, i: Insn, b: u32, c: u32, mask: u32)
+    requires { ⌜ (length (now image) ≡ 768) × ((n < 32) × ((i .vd < 8) × (mask ≡ Rows.full (enabled (laneIn (now image) n))))) ⌝ }
+    ensures { λ _. ⌜ now (image .exit) ≡ Rows.storingIn (now (image .entry)) n (Compute.wordWith op i b c (laneIn (now (image .entry)) n)) ⌝ }
+{
+    let vd = i.vd as usize;
+    let word = word_of(op, i, b, c, word_at(image, vd, n));
+    put(image, vd, n, mask, word);
+}
+
+fn word_rows(image: &mut [u32], op: u32, i: Insn, b: &[u32; 32], c: &[u32; 32], go: &[u32; 32])
+    requires { ⌜ (length (now image) ≡ 768) × ((now go ≡ Rows.enabledIn (now image)) × (i .vd < 8)) ⌝ }
+    ensures { λ _. ⌜ now (image .exit) ≡ Rows.storing (now (image .entry)) (λ L. Compute.wordWith op i (getD (now (b .entry)) L 0) (getD (now (c .entry)) L 0) (laneIn (now (image .entry)) L)) ⌝ }
 {
     let mut n: usize = 0;
     while n < 32 {
-        valued_at(image, n, op, i, b[n], c[n]);
+        word_put(image, n, op, i, b[n], c[n], go[n]);
         n += 1;
     }
 }
 
-// The op is a constant in each arm, so that each has a loop of its own once compiled.
-fn valued_by_op(image: &mut [u32], op: u32, i: Insn, b: &[u32; 32], c: &[u32; 32])
-    requires { ⌜ (length (now image) ≡ 768) × (i .vd < 8) ⌝ }
-    ensures { λ _. ⌜ now (image .exit) ≡ Rows.storing (now (image .entry)) (λ L. Rules.valuedWith op i (getD (now (b .entry)) L 0) (getD (now (c .entry)) L 0) (laneIn (now (image .entry)) L (i .vd)) (laneIn (now (image .entry)) L)) ⌝ }
+// What LaneFlag is set to, from the word: negative, or for LZ, which counts 32 in no word but 0, not zero.
+fn truth_of(op: u32, word: u32) -> bool
+    ensures { λ r. ⌜ r ≡ Compute.truthOf op word ⌝ }
 {
-    match op {
-        7 => valued_rows(image, 7, i, b, c),
-        8 => valued_rows(image, 8, i, b, c),
-        9 => valued_rows(image, 9, i, b, c),
-        10 => valued_rows(image, 10, i, b, c),
-        11 => valued_rows(image, 11, i, b, c),
-        14 => valued_rows(image, 14, i, b, c),
-        _ => valued_rows(image, op, i, b, c),
+    if op == 12 {
+        word < 32
+    } else {
+        0x8000_0000 <= word
     }
 }
 
-// Whether an operation reads vb: AND and OR under mod 1.
-fn reads_vb(op: u32, m: u32) -> bool
-    ensures { λ r. ⌜ r ≡ ((eqb op 8 || eqb op 9) && has m 1) ⌝ }
+// The word stored to vd in lane `n`, and the flag; the lane's mask afterwards.
+fn flagged_put(image: &mut [u32], n: usize, op: u32, i: Insn, sets: bool, c: u32, mask: u32) -> u32
+    requires { ⌜ (length (now image) ≡ 768) × ((n < 32) × ((i .vd < 8) × (mask ≡ Rows.full (enabled (laneIn (now image) n))))) ⌝ }
+    ensures { λ r. ⌜ (now (image .exit) ≡ Rows.storingIn (now (image .entry)) n (Compute.flaggedWith op i sets c (laneIn (now (image .entry)) n))) × (r ≡ Rows.full (enabled (laneIn (now (image .exit)) n))) ⌝ }
 {
-    ((op == 8) | (op == 9)) & (m % 2 == 1)
+    let vd = i.vd as usize;
+    let word = word_of(op, i, c, c, word_at(image, vd, n));
+    let old = word_at(image, LANE_FLAG, n);
+    let flag = flag_after(sets, truth_of(op, word), i.md, old);
+    put(image, vd, n, mask, word);
+    put(image, LANE_FLAG, n, mask, flag);
+    full(enabled(word_at(image, USE_FLAG, n), word_at(image, LANE_FLAG, n)))
 }
 
-// ABS, AND, OR, XOR, NOT or EXMAN over all lanes.
-pub fn valued(image: &mut [u32], op: u32, i: Insn)
-    ensures { λ _. ⌜ now (image .exit) ≡ Rows.whole (now (image .entry)) (Rows.storing (now (image .entry)) (λ L. Rules.valued op i L (laneIn (now (image .entry)) L))) ⌝ }
+fn flagged_rows(image: &mut [u32], op: u32, i: Insn, sets: bool, c: &[u32; 32], go: &mut [u32; 32])
+    requires { ⌜ (length (now image) ≡ 768) × ((now go ≡ Rows.enabledIn (now image)) × (i .vd < 8)) ⌝ }
+    ensures { λ _. ⌜ (now (image .exit) ≡ Rows.storing (now (image .entry)) (λ L. Compute.flaggedWith op i sets (getD (now (c .entry)) L 0) (laneIn (now (image .entry)) L))) × (now (go .exit) ≡ Rows.enabledIn (now (image .exit))) ⌝ }
 {
-    if image.len() == 768 {
-        if i.vd < 8 {
-            let c = source(image, i.vc);
-            if reads_vb(op, i.md) {
-                let b = source(image, i.vb);
-                valued_by_op(image, op, i, &b, &c);
-            } else {
-                valued_by_op(image, op, i, &c, &c);
-            }
+    let mut n: usize = 0;
+    while n < 32 {
+        go[n] = flagged_put(image, n, op, i, sets, c[n], go[n]);
+        n += 1;
+    }
+}
+
+// The words whose leading zeros are counted: in a loop of its own, since many processors count in no vector.
+fn lz_words(m: u32, c: &[u32; 32]) -> [u32; 32]
+    ensures { λ x. ⌜ x ≡ Rows.row (λ L. Rules.lzWord m (getD (now (c .entry)) L 0)) ⌝ }
+{
+    let mut words = [0u32; 32];
+    let mut n: usize = 0;
+    while n < 32 {
+        words[n] = lz_word(m, c[n]);
+        n += 1;
+    }
+    words
+}
+
+// ABS, AND, OR, XOR, NOT or EXMAN over all lanes. AND and OR read vb under mod 1.
+pub(crate) fn valued(image: &mut [u32], op: u32, i: Insn, go: &[u32; 32], fixed: &[u32; 128])
+    requires { ⌜ (length (now image) ≡ 768) × ((now go ≡ Rows.enabledIn (now image)) × ((now fixed ≡ Rows.fixedRows) × (Compute.setsFlags op ≡ false))) ⌝ }
+    ensures { λ _. ⌜ now (image .exit) ≡ Rows.storing (now (image .entry)) (λ L. Rules.valued op i L (laneIn (now (image .entry)) L)) ⌝ }
+{
+    if i.vd < 8 {
+        let c = source(image, fixed, i.vc);
+        let two = (op == 8) | (op == 9);
+        if two {
+            let b = source(image, fixed, keep(i.md % 2 == 1, i.vb, i.vd));
+            word_rows(image, op, i, &b, &c, go);
+        } else {
+            word_rows(image, op, i, &c, &c, go);
         }
     }
 }
 
-// IADD in lane `n`.
-fn iadd_at(image: &mut [u32], n: usize, i: Insn, c: u32)
-    requires { ⌜ (length (now image) ≡ 768) × ((n < 32) × (i .vd < 8)) ⌝ }
-    ensures { λ _. ⌜ now (image .exit) ≡ Rows.storingIn (now (image .entry)) n (Rules.iaddWith i c (laneIn (now (image .entry)) n (i .vd)) (laneIn (now (image .entry)) n)) ⌝ }
+// Whether LaneFlag is set or inverted; where it is neither, the words are stored alone.
+fn touches(sets: bool, m: u32) -> bool
+    ensures { λ r. ⌜ r ≡ (sets || has m 8) ⌝ }
 {
-    let vd = i.vd as usize;
-    let old = image[416 + n];
-    let test = enabled(image[448 + n], old);
-    let word = iadd_word(i.md, i.imm, c, image[32 * vd + n]);
-    put_when(image, n, vd, test, word);
-    put_when(image, n, 13, test, iadd_flag(i.md, word, old));
-}
-
-fn iadd_rows(image: &mut [u32], i: Insn, c: &[u32; 32])
-    requires { ⌜ (length (now image) ≡ 768) × (i .vd < 8) ⌝ }
-    ensures { λ _. ⌜ now (image .exit) ≡ Rows.storing (now (image .entry)) (λ L. Rules.iaddWith i (getD (now (c .entry)) L 0) (laneIn (now (image .entry)) L (i .vd)) (laneIn (now (image .entry)) L)) ⌝ }
-{
-    let mut n: usize = 0;
-    while n < 32 {
-        iadd_at(image, n, i, c[n]);
-        n += 1;
-    }
+    sets | (m / 8 % 2 == 1)
 }
 
 // IADD over all lanes.
-pub fn iadd(image: &mut [u32], i: Insn)
-    ensures { λ _. ⌜ now (image .exit) ≡ Rows.whole (now (image .entry)) (Rows.storing (now (image .entry)) (λ L. Rules.iadd i L (laneIn (now (image .entry)) L))) ⌝ }
+pub(crate) fn iadd(image: &mut [u32], i: Insn, go: &mut [u32; 32], fixed: &[u32; 128])
+    requires { ⌜ (length (now image) ≡ 768) × ((now go ≡ Rows.enabledIn (now image)) × (now fixed ≡ Rows.fixedRows)) ⌝ }
+    ensures { λ _. ⌜ (now (image .exit) ≡ Rows.storing (now (image .entry)) (λ L. Rules.iadd i L (laneIn (now (image .entry)) L))) × (now (go .exit) ≡ Rows.enabledIn (now (image .exit))) ⌝ }
 {
-    if image.len() == 768 {
-        if i.vd < 8 {
-            let c = source(image, i.vc);
-            iadd_rows(image, i, &c);
+    if i.vd < 8 {
+        let c = source(image, fixed, i.vc);
+        let sets = !(i.md / 4 % 2 == 1);
+        if touches(sets, i.md) {
+            flagged_rows(image, 6, i, sets, &c, go);
+        } else {
+            word_rows(image, 6, i, &c, &c, go);
         }
-    }
-}
-
-// LZ in lane `n`.
-fn lz_at(image: &mut [u32], n: usize, i: Insn, c: u32)
-    requires { ⌜ (length (now image) ≡ 768) × ((n < 32) × (i .vd < 8)) ⌝ }
-    ensures { λ _. ⌜ now (image .exit) ≡ Rows.storingIn (now (image .entry)) n (Rules.lzWith i c (laneIn (now (image .entry)) n)) ⌝ }
-{
-    let vd = i.vd as usize;
-    let old = image[416 + n];
-    let test = enabled(image[448 + n], old);
-    put_when(image, n, vd, test, lz_word(i.md, c));
-    put_when(image, n, 13, test, lz_flag(i.md, c, old));
-}
-
-fn lz_rows(image: &mut [u32], i: Insn, c: &[u32; 32])
-    requires { ⌜ (length (now image) ≡ 768) × (i .vd < 8) ⌝ }
-    ensures { λ _. ⌜ now (image .exit) ≡ Rows.storing (now (image .entry)) (λ L. Rules.lzWith i (getD (now (c .entry)) L 0) (laneIn (now (image .entry)) L)) ⌝ }
-{
-    let mut n: usize = 0;
-    while n < 32 {
-        lz_at(image, n, i, c[n]);
-        n += 1;
     }
 }
 
 // LZ over all lanes.
-pub fn lz(image: &mut [u32], i: Insn)
-    ensures { λ _. ⌜ now (image .exit) ≡ Rows.whole (now (image .entry)) (Rows.storing (now (image .entry)) (λ L. Rules.lz i L (laneIn (now (image .entry)) L))) ⌝ }
+pub(crate) fn lz(image: &mut [u32], i: Insn, go: &mut [u32; 32], fixed: &[u32; 128])
+    requires { ⌜ (length (now image) ≡ 768) × ((now go ≡ Rows.enabledIn (now image)) × (now fixed ≡ Rows.fixedRows)) ⌝ }
+    ensures { λ _. ⌜ (now (image .exit) ≡ Rows.storing (now (image .entry)) (λ L. Rules.lz i L (laneIn (now (image .entry)) L))) × (now (go .exit) ≡ Rows.enabledIn (now (image .exit))) ⌝ }
 {
-    if image.len() == 768 {
-        if i.vd < 8 {
-            let c = source(image, i.vc);
-            lz_rows(image, i, &c);
+    if i.vd < 8 {
+        let c = source(image, fixed, i.vc);
+        let counts = lz_words(i.md, &c);
+        let sets = i.md / 2 % 2 == 1;
+        if touches(sets, i.md) {
+            flagged_rows(image, 12, i, sets, &counts, go);
+        } else {
+            word_rows(image, 12, i, &counts, &counts, go);
         }
     }
 }
 
-// EXEXP in lane `n`.
-fn exexp_at(image: &mut [u32], n: usize, i: Insn, c: u32)
-    requires { ⌜ (length (now image) ≡ 768) × ((n < 32) × (i .vd < 8)) ⌝ }
-    ensures { λ _. ⌜ now (image .exit) ≡ Rows.storingIn (now (image .entry)) n (Rules.exexpWith i c (laneIn (now (image .entry)) n)) ⌝ }
-{
-    let vd = i.vd as usize;
-    let old = image[416 + n];
-    let test = enabled(image[448 + n], old);
-    let word = exexp_word(i.md, c);
-    put_when(image, n, vd, test, word);
-    put_when(image, n, 13, test, exexp_flag(i.md, word, old));
-}
-
-fn exexp_rows(image: &mut [u32], i: Insn, c: &[u32; 32])
-    requires { ⌜ (length (now image) ≡ 768) × (i .vd < 8) ⌝ }
-    ensures { λ _. ⌜ now (image .exit) ≡ Rows.storing (now (image .entry)) (λ L. Rules.exexpWith i (getD (now (c .entry)) L 0) (laneIn (now (image .entry)) L)) ⌝ }
-{
-    let mut n: usize = 0;
-    while n < 32 {
-        exexp_at(image, n, i, c[n]);
-        n += 1;
-    }
-}
-
 // EXEXP over all lanes.
-pub fn exexp(image: &mut [u32], i: Insn)
-    ensures { λ _. ⌜ now (image .exit) ≡ Rows.whole (now (image .entry)) (Rows.storing (now (image .entry)) (λ L. Rules.exexp i L (laneIn (now (image .entry)) L))) ⌝ }
+pub(crate) fn exexp(image: &mut [u32], i: Insn, go: &mut [u32; 32], fixed: &[u32; 128])
+    requires { ⌜ (length (now image) ≡ 768) × ((now go ≡ Rows.enabledIn (now image)) × (now fixed ≡ Rows.fixedRows)) ⌝ }
+    ensures { λ _. ⌜ (now (image .exit) ≡ Rows.storing (now (image .entry)) (λ L. Rules.exexp i L (laneIn (now (image .entry)) L))) × (now (go .exit) ≡ Rows.enabledIn (now (image .exit))) ⌝ }
 {
-    if image.len() == 768 {
-        if i.vd < 8 {
-            let c = source(image, i.vc);
-            exexp_rows(image, i, &c);
+    if i.vd < 8 {
+        let c = source(image, fixed, i.vc);
+        let sets = i.md / 2 % 2 == 1;
+        if touches(sets, i.md) {
+            flagged_rows(image, 13, i, sets, &c, go);
+        } else {
+            word_rows(image, 13, i, &c, &c, go);
         }
     }
 }

@@ -1,25 +1,30 @@
-// CONFIG over all lanes: row 0's flags and register 0 are copied first, then the lanes that are not passed over store one word each.
-use crate::head_row;
-use crate::store_rows;
+// CONFIG over all lanes: a mask and a value for each column, from its lane in row 0, then the 32 lanes once.
+use crate::rows::full;
+use crate::rows::put;
+use crate::rows::word_at;
 use lane::Insn;
 use lane::config::constant_after;
 use lane::config::lane_config_after;
 use lane::config::misc_after;
 use lane::config::passed_over;
 use lane::config::value_of;
-use lane::words::keep;
+use lane::words::LANE_CONFIG;
+use lane::words::LANE_FLAG;
+use lane::words::MISC;
+use lane::words::USE_FLAG;
 ghost use mathlib.Core.Path.{_≡_};
-ghost use mathlib.Core.Bool.{not};
+ghost use mathlib.Core.List.{[], _∷_};
 ghost use Prim.Native.Nat.{ℕ, _<_, _%_};
 ghost use lib.ListN.{length, getD};
-ghost use Rattle.lane.specs.Words.{flagOf};
+ghost use Rattle.lane.specs.Words.{pick};
 ghost use Rattle.lane.specs.Config as Rules;
 ghost use Rattle.runner.specs.Image.{laneIn};
 ghost use Rattle.runner.specs.Rows as Rows;
+ghost use Rattle.runner.specs.ConfigRows as ConfigRows;
 
 // The slot that CONFIG stores to, for any vd but 9 and 10.
 fn config_slot(vd: u32) -> usize
-    ensures { λ r. ⌜ (r ≡ Rows.configSlot vd) × (r < 24) ⌝ }
+    ensures { λ r. ⌜ (r ≡ ConfigRows.configSlot vd) × (r < 24) ⌝ }
 {
     if vd < 4 {
         return 15 + vd as usize;
@@ -28,94 +33,103 @@ fn config_slot(vd: u32) -> usize
         return 19 + (vd as usize - 4);
     }
     if vd == 8 {
-        return 23;
+        return MISC;
     }
     if vd < 15 {
         return vd as usize - 3;
     }
-    12
+    LANE_CONFIG
 }
 
-// The word for vd 8 up.
-fn config_high_word(edition: u32, i: Insn, first: u32, old: u32) -> u32
-    ensures { λ r. ⌜ r ≡ Rows.configHighWord edition i first old ⌝ }
-{
-    let vd = i.vd;
-    let value = value_of(i.md, i.imm, first);
-    if vd == 8 {
-        return misc_after(i.md, old, value);
-    }
-    if vd < 15 {
-        return constant_after(edition, i.md, vd, first);
-    }
-    lane_config_after(i.md, old, value)
-}
-
-// The word that CONFIG stores where the slot holds `old`.
-fn config_word(edition: u32, i: Insn, first: u32, old: u32) -> u32
-    ensures { λ r. ⌜ r ≡ Rows.configWord edition i first old ⌝ }
+// A column's value, where row 0 has `first` in register 0.
+fn config_value(edition: u32, i: Insn, first: u32) -> u32
+    ensures { λ r. ⌜ r ≡ ConfigRows.configValue edition i first ⌝ }
 {
     if i.vd < 4 {
         return first;
     }
-    if i.vd < 8 {
-        return value_of(i.md, i.imm, first);
+    if (11 <= i.vd) & (i.vd < 15) {
+        return constant_after(edition, i.md, i.vd, first);
     }
-    config_high_word(edition, i, first, old)
+    value_of(i.md, i.imm, first)
 }
 
-// The lanes that are not passed over: 1 or 0.
-fn config_tests(i: Insn, uses: &[u32; 32], flags: &[u32; 32]) -> [u32; 32]
-    ensures { λ x. ⌜ x ≡ Rows.row (λ L. flagOf (not (Rules.passedOver (i .md) (i .imm) L (getD (now (uses .entry)) L 0) (getD (now (flags .entry)) L 0)))) ⌝ }
+// The word that a value leaves in place of `old`. Only Misc and LaneConfig are combined with it.
+fn written(vd: u32, m: u32, value: u32, old: u32) -> u32
+    ensures { λ r. ⌜ r ≡ ConfigRows.written vd m value old ⌝ }
 {
-    let mut tests = [0u32; 32];
-    let mut n: usize = 0;
-    while n < 32 {
-        tests[n] = keep(!passed_over(i.md, i.imm, n as u8, uses[n], flags[n]), 1, 0);
-        n += 1;
+    if vd == 8 {
+        return misc_after(m, old, value);
     }
-    tests
+    if vd < 15 {
+        return value;
+    }
+    lane_config_after(m, old, value)
 }
 
-fn config_words(image: &[u32], edition: u32, i: Insn, slot: usize, firsts: &[u32; 32]) -> [u32; 32]
-    requires { ⌜ (length (now image) ≡ 768) × (slot < 24) ⌝ }
-    ensures { λ x. ⌜ x ≡ Rows.row (λ L. Rows.configWord edition i (getD (now (firsts .entry)) L 0) (laneIn (now (image .entry)) L slot)) ⌝ }
-{
-    let at = 32 * slot;
-    let mut words = [0u32; 32];
-    let mut n: usize = 0;
-    while n < 32 {
-        words[n] = config_word(edition, i, firsts[n], image[at + n]);
-        n += 1;
-    }
-    words
-}
-
-// CONFIG's stores, for any vd but 9 and 10.
-fn config_stores(image: &mut [u32], edition: u32, i: Insn)
+// The masks of the lanes that are not passed over. Each column's is worked out once, for its four lanes.
+fn reached_masks(image: &[u32], i: Insn) -> [u32; 32]
     requires { ⌜ length (now image) ≡ 768 ⌝ }
-    ensures { λ _. ⌜ now (image .exit) ≡ Rows.storing (now (image .entry)) (λ L. Rows.configured edition i L (laneIn (now (image .entry)) (L % 8)) (laneIn (now (image .entry)) L)) ⌝ }
+    ensures { λ x. ⌜ x ≡ ConfigRows.reachedIn i (now (image .entry)) ⌝ }
 {
-    let uses = head_row(image, 14);
-    let flags = head_row(image, 13);
-    let firsts = head_row(image, 0);
-    let tests = config_tests(i, &uses, &flags);
-    let slot = config_slot(i.vd);
-    let words = config_words(image, edition, i, slot, &firsts);
-    store_rows(image, slot, &tests, &words);
+    let mut masks = [0u32; 32];
+    let mut j: usize = 0;
+    while j < 8 {
+        let uses = word_at(image, USE_FLAG, j);
+        let flag = word_at(image, LANE_FLAG, j);
+        let mask = full(!passed_over(i.md, i.imm, j as u8, uses, flag));
+        masks[j] = mask;
+        masks[8 + j] = mask;
+        masks[16 + j] = mask;
+        masks[24 + j] = mask;
+        j += 1;
+    }
+    masks
+}
+
+// The values, each column's for its four lanes.
+fn config_values(image: &[u32], edition: u32, i: Insn) -> [u32; 32]
+    requires { ⌜ length (now image) ≡ 768 ⌝ }
+    ensures { λ x. ⌜ x ≡ ConfigRows.columns (λ j. ConfigRows.configValue edition i (laneIn (now (image .entry)) j 0)) ⌝ }
+{
+    let mut values = [0u32; 32];
+    let mut j: usize = 0;
+    while j < 8 {
+        let value = config_value(edition, i, word_at(image, 0, j));
+        values[j] = value;
+        values[8 + j] = value;
+        values[16 + j] = value;
+        values[24 + j] = value;
+        j += 1;
+    }
+    values
+}
+
+// The stores to a slot.
+fn config_rows(image: &mut [u32], slot: usize, i: Insn, masks: &[u32; 32], values: &[u32; 32])
+    requires { ⌜ (length (now image) ≡ 768) × ((slot < 24) × (now masks ≡ ConfigRows.reachedIn i (now image))) ⌝ }
+    ensures { λ _. ⌜ now (image .exit) ≡ Rows.storing (now (image .entry)) (λ L. pick (ConfigRows.reached i (laneIn (now (image .entry)) (L % 8)) (L % 8)) ((slot, ConfigRows.written (i .vd) (i .md) (getD (now (values .entry)) L 0) (laneIn (now (image .entry)) L slot)) ∷ []) []) ⌝ }
+{
+    let mut n: usize = 0;
+    while n < 32 {
+        let word = written(i.vd, i.md, values[n], word_at(image, slot, n));
+        put(image, slot, n, masks[n], word);
+        n += 1;
+    }
 }
 
 // CONFIG over all lanes.
-pub fn config(image: &mut [u32], edition: u32, i: Insn)
-    ensures { λ _. ⌜ now (image .exit) ≡ Rows.whole (now (image .entry)) (Rows.storing (now (image .entry)) (λ L. Rules.config edition i L (laneIn (now (image .entry)) (L % 8)) (laneIn (now (image .entry)) L))) ⌝ }
+pub(crate) fn config(image: &mut [u32], edition: u32, i: Insn)
+    requires { ⌜ length (now image) ≡ 768 ⌝ }
+    ensures { λ _. ⌜ now (image .exit) ≡ Rows.storing (now (image .entry)) (λ L. Rules.config edition i L (laneIn (now (image .entry)) (L % 8)) (laneIn (now (image .entry)) L)) ⌝ }
 {
-    if image.len() == 768 {
-        if i.vd == 9 {
-            return;
-        }
-        if i.vd == 10 {
-            return;
-        }
-        config_stores(image, edition, i);
+    if i.vd == 9 {
+        return;
     }
+    if i.vd == 10 {
+        return;
+    }
+    let masks = reached_masks(image, i);
+    let values = config_values(image, edition, i);
+    config_rows(image, config_slot(i.vd), i, &masks, &values);
 }

@@ -1,105 +1,216 @@
-// LUT over all lanes: first which lanes act and what word each would store, then the stores, to vd or to the register that register 7 names.
-use crate::put_when;
-use crate::store_rows;
+// LUT over all lanes: the inputs with the words that serve them, the sums, then each lane's answer and its store. A lane without an answer
+// stores a word of its own again, so that no loop has a branch.
+use crate::rows::full;
+use crate::rows::put;
+use crate::rows::slot_row;
+use crate::rows::word_at;
 use lane::Insn;
-use lane::lut::lut_result;
+use lane::LutAnswer;
+use lane::lut::float_of;
+use lane::lut::input_bits;
+use lane::lut::line_of;
+use lane::lut::lut_answer;
 use lane::lut::lut_word;
-use lane::swap::acts;
-use lane::words::keep;
+use lane::lut::serving;
+use lane::lut::sum_of;
+use lane::words::LANE_CONFIG;
 ghost use mathlib.Core.Path.{_≡_};
-ghost use Prim.Native.Nat.{ℕ, _<_};
+ghost use mathlib.Core.Bool.{true, false};
+ghost use mathlib.Core.List.{[], _∷_};
+ghost use Prim.Native.Nat.{ℕ, _+_, _%_, _<_};
 ghost use lib.ListN.{length, getD};
-ghost use lib.Dec.{eqb};
-ghost use Rattle.lane.specs.Words.{flagOf};
+ghost use lib.Ieee.{nan};
+ghost use Rattle.lane.specs.Words.{has};
 ghost use Rattle.lane.specs.Swap as Swap;
 ghost use Rattle.lane.specs.Lut as Rules;
 ghost use Rattle.runner.specs.Image.{laneIn};
 ghost use Rattle.runner.specs.Rows as Rows;
+ghost use Rattle.runner.specs.LutRows as LutRows;
 
-// Whether lane `n` acts: 1 or 0.
-fn lut_test(image: &[u32], n: usize, vd: u32) -> u32
-    requires { ⌜ (length (now image) ≡ 768) × (n < 32) ⌝ }
-    ensures { λ r. ⌜ r ≡ flagOf (Swap.acts vd (laneIn (now (image .entry)) n)) ⌝ }
-{
-    keep(
-        acts(vd, image[384 + n], image[448 + n], image[416 + n]),
-        1,
-        0,
-    )
-}
-
-fn lut_tests(image: &[u32], vd: u32) -> [u32; 32]
+// The inputs.
+fn inputs(image: &[u32]) -> [f32; 32]
     requires { ⌜ length (now image) ≡ 768 ⌝ }
-    ensures { λ x. ⌜ x ≡ Rows.row (λ L. flagOf (Swap.acts vd (laneIn (now (image .entry)) L))) ⌝ }
+    ensures { λ x. ⌜ LutRows.Numbers (λ L. Rules.inputOf (laneIn (now (image .entry)) L 3)) x ⌝ }
 {
-    let mut tests = [0u32; 32];
+    let mut b = [0.0f32; 32];
     let mut n: usize = 0;
     while n < 32 {
-        tests[n] = lut_test(image, n, vd);
+        b[n] = float_of(input_bits(word_at(image, 3, n)));
         n += 1;
     }
-    tests
+    b
 }
 
-// The word of lane `n`'s result.
-fn lut_word_at(image: &[u32], n: usize, m: u32) -> u32
-    requires { ⌜ (length (now image) ≡ 768) × (n < 32) ⌝ }
-    ensures { λ r. ⌜ r ≡ Rows.lutWordOf m (laneIn (now (image .entry)) n) ⌝ }
-{
-    let r3 = image[96 + n];
-    lut_word(
-        m,
-        r3,
-        lut_result(image[n], image[32 + n], image[64 + n], r3),
-    )
-}
-
-fn lut_words(image: &[u32], m: u32) -> [u32; 32]
+// The coefficient words that serve them.
+fn served(image: &[u32], b: &[f32; 32]) -> [u32; 32]
     requires { ⌜ length (now image) ≡ 768 ⌝ }
-    ensures { λ x. ⌜ x ≡ Rows.row (λ L. Rows.lutWordOf m (laneIn (now (image .entry)) L)) ⌝ }
+    ensures { λ x. ⌜ x ≡ Rows.row (λ L. Rules.serving (getD (now (b .entry)) L nan) (laneIn (now (image .entry)) L 0) (laneIn (now (image .entry)) L 1) (laneIn (now (image .entry)) L 2)) ⌝ }
 {
-    let mut words = [0u32; 32];
+    let mut k = [0u32; 32];
     let mut n: usize = 0;
     while n < 32 {
-        words[n] = lut_word_at(image, n, m);
+        k[n] = serving(
+            b[n],
+            word_at(image, 0, n),
+            word_at(image, 1, n),
+            word_at(image, 2, n),
+        );
+        n += 1;
+    }
+    k
+}
+
+// The sums.
+fn sums(b: &[f32; 32], k: &[u32; 32]) -> [f32; 32]
+    ensures { λ x. ⌜ LutRows.Numbers (λ L. Rules.sumOf (Rules.lineOf (getD (now (k .entry)) L 0)) (getD (now (b .entry)) L nan)) x ⌝ }
+{
+    let mut x = [0.0f32; 32];
+    let mut n: usize = 0;
+    while n < 32 {
+        x[n] = sum_of(line_of(k[n]), b[n]);
+        n += 1;
+    }
+    x
+}
+
+// The results. Three loops, since one long chain a lane leaves the processor waiting.
+fn results(image: &[u32]) -> [f32; 32]
+    requires { ⌜ length (now image) ≡ 768 ⌝ }
+    ensures { λ x. ⌜ LutRows.Numbers (λ L. LutRows.resultIn (laneIn (now (image .entry)) L)) x ⌝ }
+{
+    let b = inputs(image);
+    let k = served(image, &b);
+    sums(&b, &k)
+}
+
+// The masks of the lanes that act.
+fn acting_row(image: &[u32], vd: u32, go: &[u32; 32]) -> [u32; 32]
+    requires { ⌜ (length (now image) ≡ 768) × (now go ≡ Rows.enabledIn (now image)) ⌝ }
+    ensures { λ x. ⌜ x ≡ Rows.row (λ L. Rows.full (Swap.acts vd (laneIn (now (image .entry)) L))) ⌝ }
+{
+    let low = full(vd < 12);
+    let mut act = [0u32; 32];
+    let mut n: usize = 0;
+    while n < 32 {
+        let bit = full(word_at(image, LANE_CONFIG, n) / 16 % 2 == 1);
+        act[n] = go[n] & (low | bit);
+        n += 1;
+    }
+    act
+}
+
+// The word that an answer leaves where its register holds `own`.
+fn answer_word(m: u32, r3: u32, answer: LutAnswer, own: u32) -> u32
+    ensures { λ r. ⌜ r ≡ LutRows.storedWord (Rules.lutStores m r3 answer) own ⌝ }
+{
+    match answer {
+        LutAnswer::Number(x, _r) => lut_word(m, r3, x),
+        LutAnswer::Nothing => own,
+    }
+}
+
+// The slot that it is stored to, register 0's where there is no answer.
+fn answer_slot(answer: LutAnswer) -> u32
+    ensures { λ r. ⌜ ((m r3 : ℕ) → r ≡ LutRows.storedSlot (Rules.lutStores m r3 answer)) ⌝ }
+{
+    match answer {
+        LutAnswer::Number(_x, r) => r,
+        LutAnswer::Nothing => 0,
+    }
+}
+
+// The answers stored to vd, which holds `old`.
+fn answer_rows(
+    image: &mut [u32],
+    m: u32,
+    vd: u32,
+    r3: &[u32; 32],
+    old: &[u32; 32],
+    x: &[f32; 32],
+    act: &[u32; 32],
+)
+    requires { ⌜ (length (now image) ≡ 768) × (vd < 8) ⌝ }
+    ensures { λ _. ⌜ now (image .exit) ≡ Rows.storing (now (image .entry)) (λ L. (vd, LutRows.storedWord (LutRows.answered m (getD (now (r3 .entry)) L 0) (getD (now (act .entry)) L 0) vd (getD (now (x .entry)) L nan)) (getD (now (old .entry)) L 0)) ∷ []) ⌝ }
+{
+    let mut n: usize = 0;
+    while n < 32 {
+        let answer = lut_answer(act[n] != 0, vd, x[n]);
+        let word = answer_word(m, r3[n], answer, old[n]);
+        put(image, vd as usize, n, 0xFFFF_FFFF, word);
+        n += 1;
+    }
+}
+
+// The words of the answers, and then their slots, where register 7 names the register.
+fn answer_words(
+    m: u32,
+    r3: &[u32; 32],
+    r7: &[u32; 32],
+    r0: &[u32; 32],
+    x: &[f32; 32],
+    act: &[u32; 32],
+) -> [u32; 64]
+    ensures { λ y. ⌜ LutRows.Answers (λ L. LutRows.answered m (getD (now (r3 .entry)) L 0) (getD (now (act .entry)) L 0) (getD (now (r7 .entry)) L 0 % 16) (getD (now (x .entry)) L nan)) (λ L. getD (now (r0 .entry)) L 0) 32 y ⌝ }
+{
+    let mut words = [0u32; 64];
+    let mut n: usize = 0;
+    while n < 32 {
+        let answer = lut_answer(act[n] != 0, r7[n] % 16, x[n]);
+        words[n] = answer_word(m, r3[n], answer, r0[n]);
+        words[32 + n] = answer_slot(answer);
         n += 1;
     }
     words
 }
 
-// A store in lane `n` to the register that register 7 names.
-fn scatter_at(image: &mut [u32], n: usize, test: u32, word: u32)
-    requires { ⌜ (length (now image) ≡ 768) × (n < 32) ⌝ }
-    ensures { λ _. ⌜ now (image .exit) ≡ Rows.storingIn (now (image .entry)) n (Rows.scattered test word (laneIn (now (image .entry)) n)) ⌝ }
-{
-    let r = image[224 + n] % 16;
-    if r < 8 {
-        put_when(image, n, r as usize, test == 1, word);
-    }
-}
-
-fn scatter_rows(image: &mut [u32], tests: &[u32; 32], words: &[u32; 32])
-    requires { ⌜ length (now image) ≡ 768 ⌝ }
-    ensures { λ _. ⌜ now (image .exit) ≡ Rows.storing (now (image .entry)) (λ L. Rows.scattered (getD (now (tests .entry)) L 0) (getD (now (words .entry)) L 0) (laneIn (now (image .entry)) L)) ⌝ }
+// Words stored to the slots that follow them.
+fn scatter(image: &mut [u32], words: &[u32; 64])
+    requires { ⌜ (length (now image) ≡ 768) × ((L : ℕ) → L < 32 → getD (now words) (32 + L) 0 < 8) ⌝ }
+    ensures { λ _. ⌜ now (image .exit) ≡ Rows.storing (now (image .entry)) (λ L. (getD (now (words .entry)) (32 + L) 0, getD (now (words .entry)) L 0) ∷ []) ⌝ }
 {
     let mut n: usize = 0;
     while n < 32 {
-        scatter_at(image, n, tests[n], words[n]);
+        let slot = words[32 + n] as usize;
+        put(image, slot, n, 0xFFFF_FFFF, words[n]);
         n += 1;
     }
 }
 
-// LUT over all lanes.
-pub fn lut(image: &mut [u32], i: Insn)
-    ensures { λ _. ⌜ now (image .exit) ≡ Rows.whole (now (image .entry)) (Rows.storing (now (image .entry)) (λ L. Rules.lut i (laneIn (now (image .entry)) L))) ⌝ }
+// LUT to the register that register 7 names.
+fn lut_named(image: &mut [u32], i: Insn, go: &[u32; 32], x: &[f32; 32])
+    requires { ⌜ (length (now image) ≡ 768) × ((now go ≡ Rows.enabledIn (now image)) × (LutRows.Numbers (λ L. LutRows.resultIn (laneIn (now image) L)) (now x) × (has (i .md) 8 ≡ true))) ⌝ }
+    ensures { λ _. ⌜ now (image .exit) ≡ Rows.storing (now (image .entry)) (λ L. Rules.lut i (laneIn (now (image .entry)) L)) ⌝ }
 {
-    if image.len() == 768 {
-        let tests = lut_tests(image, i.vd);
-        let words = lut_words(image, i.md);
-        if i.md / 8 % 2 == 1 {
-            scatter_rows(image, &tests, &words);
-        } else if i.vd < 8 {
-            store_rows(image, i.vd as usize, &tests, &words);
+    let act = acting_row(image, i.vd, go);
+    let r3 = slot_row(image, 3);
+    let r7 = slot_row(image, 7);
+    let r0 = slot_row(image, 0);
+    let words = answer_words(i.md, &r3, &r7, &r0, x, &act);
+    scatter(image, &words);
+}
+
+// LUT to vd, where that is stored.
+fn lut_direct(image: &mut [u32], i: Insn, go: &[u32; 32], x: &[f32; 32])
+    requires { ⌜ (length (now image) ≡ 768) × ((now go ≡ Rows.enabledIn (now image)) × (LutRows.Numbers (λ L. LutRows.resultIn (laneIn (now image) L)) (now x) × ((has (i .md) 8 ≡ false) × (i .vd < 8)))) ⌝ }
+    ensures { λ _. ⌜ now (image .exit) ≡ Rows.storing (now (image .entry)) (λ L. Rules.lut i (laneIn (now (image .entry)) L)) ⌝ }
+{
+    let r3 = slot_row(image, 3);
+    let old = slot_row(image, i.vd as usize);
+    answer_rows(image, i.md, i.vd, &r3, &old, x, go);
+}
+
+// LUT over all lanes.
+pub(crate) fn lut(image: &mut [u32], i: Insn, go: &[u32; 32])
+    requires { ⌜ (length (now image) ≡ 768) × (now go ≡ Rows.enabledIn (now image)) ⌝ }
+    ensures { λ _. ⌜ now (image .exit) ≡ Rows.storing (now (image .entry)) (λ L. Rules.lut i (laneIn (now (image .entry)) L)) ⌝ }
+{
+    let named = i.md / 8 % 2 == 1;
+    if named | (i.vd < 8) {
+        let x = results(image);
+        if named {
+            lut_named(image, i, go, &x);
+        } else {
+            lut_direct(image, i, go, &x);
         }
     }
 }

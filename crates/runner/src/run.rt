@@ -10,6 +10,8 @@ use crate::insn_at;
 use crate::load::load;
 use crate::load::loadi;
 use crate::lut::lut;
+use crate::rows::enabled_row;
+use crate::rows::fixed_rows;
 use crate::swap::swap;
 use lane::Insn;
 use lane::Settings;
@@ -17,56 +19,96 @@ use lane::load::address;
 use lane::load::next_cursor;
 use lane::load::stride;
 ghost use mathlib.Core.Path.{_≡_};
-ghost use Prim.Native.Nat.{_≤_, _<_};
+ghost use Prim.Native.Nat.{_≤_};
 ghost use lib.ListN.{length};
 ghost use Rattle.runner.specs.Run as Run;
+ghost use Rattle.runner.specs.Rows as Rows;
+ghost use Rattle.runner.specs.StepRows as Steps;
 
-// One instruction at address `a`, in every lane.
-fn step_lanes(s: Settings, i: Insn, a: u16, image: &mut [u32], dst: &[u16])
-    requires { ⌜ (length (now image) ≡ 768) × ((length (now dst) ≡ 16384) × (a < 1024)) ⌝ }
-    ensures { λ _. ⌜ now (image .exit) ≡ Run.imageAt s i a (now (image .entry)) (now (dst .entry)) ⌝ }
+// Any instruction but LOAD, in every lane. `go` are the lanes that are enabled, `fixed` the rows of the registers never stored, `t` is scratch. The
+// op is a constant where one function serves several.
+fn step_stored(
+    s: Settings,
+    i: Insn,
+    image: &mut [u32],
+    go: &mut [u32; 32],
+    fixed: &[u32; 128],
+    t: &mut [u32; 96],
+)
+    requires { ⌜ (length (now image) ≡ 768) × ((now go ≡ Rows.enabledIn (now image)) × ((now fixed ≡ Rows.fixedRows) × (i .op ≡ 1 → ⊥))) ⌝ }
+    ensures { λ _. ⌜ Steps.Stored s i (now (image .entry)) (now (image .exit)) (now (go .exit)) ⌝ }
 {
     let op = i.op;
     match op {
-        1 => load(image, dst, s.srcb, a, i),
-        2 => loadi(image, i),
-        3 => lut(image, i),
-        4 => swap(image, i),
+        2 => loadi(image, i, go),
+        3 => lut(image, i, go),
+        4 => swap(image, i, go, fixed, t),
         5 => config(image, s.edition, i),
-        6 => iadd(image, i),
-        12 => lz(image, i),
-        13 => exexp(image, i),
+        6 => iadd(image, i, go, fixed),
+        7 => valued(image, 7, i, go, fixed),
+        8 => valued(image, 8, i, go, fixed),
+        9 => valued(image, 9, i, go, fixed),
+        10 => valued(image, 10, i, go, fixed),
+        11 => valued(image, 11, i, go, fixed),
+        12 => lz(image, i, go, fixed),
+        13 => exexp(image, i, go, fixed),
         15 => {}
-        _ => valued(image, op, i),
+        _ => valued(image, 14, i, go, fixed),
     }
 }
 
-// One instruction: the image after it, in place, and the cursor after it. An image or a Dst of another length is left alone.
+// One instruction, in every lane; the cursor after it.
+fn step_lanes(
+    s: Settings,
+    i: Insn,
+    cursor: u32,
+    image: &mut [u32],
+    dst: &[u16],
+    go: &mut [u32; 32],
+    fixed: &[u32; 128],
+    t: &mut [u32; 96],
+) -> u32
+    requires { ⌜ (length (now image) ≡ 768) × ((length (now dst) ≡ 16384) × ((now go ≡ Rows.enabledIn (now image)) × (now fixed ≡ Rows.fixedRows))) ⌝ }
+    ensures { λ r. ⌜ Steps.Left s i cursor (now (image .entry)) (now (dst .entry)) r (now (image .exit)) (now (go .exit)) ⌝ }
+{
+    if i.op == 1 {
+        let a = address(i.imm, s.offset, cursor);
+        load(image, dst, s.srcb, a, i, go);
+        return next_cursor(1, cursor, stride(s, i.vb));
+    }
+    step_stored(s, i, image, go, fixed, t);
+    cursor
+}
+
+// All instructions of a list in turn, from a cursor; the cursor after them. What lasts through them is made once.
+fn step_all(s: Settings, cursor: u32, image: &mut [u32], dst: &[u16], list: &[u32]) -> u32
+    requires { ⌜ (length (now image) ≡ 768) × ((length (now dst) ≡ 16384) × (length (now list) ≤ 6144)) ⌝ }
+    ensures { λ r. ⌜ (r ≡ Steps.from s cursor (now (image .entry)) (now (dst .entry)) (now (list .entry)) .cursor) × (now (image .exit) ≡ Steps.from s cursor (now (image .entry)) (now (dst .entry)) (now (list .entry)) .image) ⌝ }
+{
+    let count = list.len() / 6;
+    let mut go = enabled_row(image);
+    let fixed = fixed_rows();
+    let mut t = [0u32; 96];
+    let mut at = cursor;
+    let mut k: usize = 0;
+    while k < count {
+        at = step_lanes(s, insn_at(list, k), at, image, dst, &mut go, &fixed, &mut t);
+        k += 1;
+    }
+    at
+}
+
+// One instruction: the image after it, in place, and the cursor after it. An image or a Dst of another length is left alone. It is a list of one, so
+// that the steps through a list are compiled once.
 pub fn step(s: Settings, i: Insn, cursor: u32, image: &mut [u32], dst: &[u16]) -> u32
     ensures { λ r. ⌜ (r ≡ Run.cursorAfter s i cursor) × (now (image .exit) ≡ Run.stepImage s i cursor (now (image .entry)) (now (dst .entry))) ⌝ }
 {
-    let next = next_cursor(i.op, cursor, stride(s, i.vb));
-    if image.len() == 768 {
-        if dst.len() == 16384 {
-            step_lanes(s, i, address(i.imm, s.offset, cursor), image, dst);
-        }
+    let sized = (image.len() == 768) & (dst.len() == 16384);
+    if sized {
+        let list = [i.op, i.imm, i.vb, i.vc, i.vd, i.md];
+        return step_all(s, cursor, image, dst, &list);
     }
-    next
-}
-
-// All instructions of a list in turn; the cursor after them.
-fn step_all(s: Settings, image: &mut [u32], dst: &[u16], list: &[u32]) -> u32
-    requires { ⌜ (length (now image) ≡ 768) × ((length (now dst) ≡ 16384) × (length (now list) ≤ 6144)) ⌝ }
-    ensures { λ r. ⌜ (r ≡ Run.finish s (now (image .entry)) (now (dst .entry)) (now (list .entry)) .cursor) × (now (image .exit) ≡ Run.finish s (now (image .entry)) (now (dst .entry)) (now (list .entry)) .image) ⌝ }
-{
-    let count = list.len() / 6;
-    let mut cursor = s.cursor;
-    let mut k: usize = 0;
-    while k < count {
-        cursor = step(s, insn_at(list, k), cursor, image, dst);
-        k += 1;
-    }
-    cursor
+    next_cursor(i.op, cursor, stride(s, i.vb))
 }
 
 // A run of a list over an image and a Dst: a refusal leaves the image untouched.
@@ -76,7 +118,7 @@ pub fn run(s: Settings, image: &mut [u32], dst: &[u16], list: &[u32]) -> Outcome
     let found = run_answer(s, image, dst, list);
     let answer = found.answer;
     if answer == 0 {
-        let cursor = step_all(s, image, dst, list);
+        let cursor = step_all(s, s.cursor, image, dst, list);
         return Outcome {
             answer: 0,
             steps: (list.len() / 6) as u32,

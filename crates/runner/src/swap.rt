@@ -1,136 +1,170 @@
-// SWAP over all lanes: first which lanes swap, from the rows of vc and vd; then the stores to vc and vd; then, where a lane has bit 2 set,
-// the exchange of the registers 4 + vc mod 4 and 4 + vd mod 4.
-use crate::slot_row;
-use crate::source;
-use crate::store_rows;
+// SWAP over all lanes: three rows of masks, made in one loop; then the stores to vc and vd; then, where a lane has bit 2 set, the exchange of
+// the registers 4 + vc mod 4 and 4 + vd mod 4.
+use crate::rows::full;
+use crate::rows::masked;
+use crate::rows::put;
+use crate::rows::source;
+use crate::rows::word_at;
 use lane::Insn;
-use lane::swap::acts;
 use lane::swap::in_mask;
 use lane::swap::mask_of;
-use lane::swap::swaps;
-use lane::words::keep;
+use lane::words::LANE_CONFIG;
 ghost use mathlib.Core.Path.{_≡_};
-ghost use mathlib.Core.Bool.{not, false, _&&_};
-ghost use Prim.Native.Nat.{ℕ, _<_};
+ghost use mathlib.Core.Bool.{Bool, _&&_, _||_};
+ghost use Prim.Native.Nat.{_+_, _<_, _≤_};
 ghost use lib.ListN.{length, getD};
-ghost use lib.Dec.{eqb};
-ghost use Rattle.lane.specs.Words.{bit, flagOf};
+ghost use lib.Dec.{eqb, ltb};
+ghost use Rattle.lane.specs.Words.{bit, reg};
 ghost use Rattle.lane.specs.Swap as Rules;
 ghost use Rattle.runner.specs.Image.{laneIn};
 ghost use Rattle.runner.specs.Rows as Rows;
+ghost use Rattle.runner.specs.SwapRows as Swaps;
 
-// Whether lane `n` swaps, vc and vd holding `c` and `d`: 1 or 0.
-fn swap_test(image: &[u32], n: usize, mask: u32, i: Insn, c: u32, d: u32) -> u32
-    requires { ⌜ (length (now image) ≡ 768) × (n < 32) ⌝ }
-    ensures { λ r. ⌜ r ≡ flagOf (Rows.swapTest mask i n c d (laneIn (now (image .entry)) n)) ⌝ }
+// A word's place in the order of ranks, so that one comparison of numbers decides it.
+fn key(x: u32) -> u32
+    ensures { λ r. ⌜ r ≡ Swaps.key x ⌝ }
 {
-    let config = image[384 + n];
-    let acting = acts(i.vd, config, image[448 + n], image[416 + n]);
-    let swapping = swaps(
-        i.md == 0,
-        in_mask(mask, n as u8),
-        config / 256 % 2 == 1,
-        c,
-        d,
-    );
-    keep(acting & swapping, 1, 0)
+    x ^ (full(0x8000_0000 <= x) | 0x8000_0000)
 }
 
-fn swap_tests(image: &[u32], mask: u32, i: Insn, c: &[u32; 32], d: &[u32; 32]) -> [u32; 32]
-    requires { ⌜ length (now image) ≡ 768 ⌝ }
-    ensures { λ x. ⌜ x ≡ Rows.row (λ L. flagOf (Rows.swapTest mask i L (getD (now (c .entry)) L 0) (getD (now (d .entry)) L 0) (laneIn (now (image .entry)) L))) ⌝ }
+// The mask of whether a lane swaps, from its mask of being enabled: `always` under mod 0, `free` of bit 4 for vd below 12.
+fn swap_mask(go: u32, always: bool, free: bool, minimum: bool, config: u32, c: u32, d: u32) -> u32
+    ensures { λ r. ⌜ ((e : Bool) → go ≡ Rows.full e → r ≡ Rows.full (((free || bit config 4) && e) && Rules.swaps always minimum (bit config 8) c d)) ⌝ }
 {
-    let mut tests = [0u32; 32];
-    let mut n: usize = 0;
-    while n < 32 {
-        tests[n] = swap_test(image, n, mask, i, c[n], d[n]);
-        n += 1;
-    }
-    tests
+    let order = minimum == (key(c) < key(d));
+    let swapping = always | ((config / 256 % 2 == 1) != order);
+    go & full((free | (config / 16 % 2 == 1)) & swapping)
 }
 
-// The tests of the lanes whose bit 2 is set, or clear.
-fn index_tests(image: &[u32], tests: &[u32; 32], index: bool) -> [u32; 32]
-    requires { ⌜ length (now image) ≡ 768 ⌝ }
-    ensures { λ x. ⌜ x ≡ Rows.row (λ L. flagOf (eqb (getD (now (tests .entry)) L 0) 1 && Rows.sameTruth index (bit (laneIn (now (image .entry)) L 12) 2))) ⌝ }
+// The rows of masks: the lanes that swap; of those, the lanes with bit 2 clear; and those with it set.
+fn swap_masks(
+    image: &[u32],
+    always: bool,
+    free: bool,
+    mask: u32,
+    c: &[u32; 32],
+    d: &[u32; 32],
+    go: &[u32; 32],
+    t: &mut [u32],
+)
+    requires { ⌜ (length (now image) ≡ 768) × ((length (now t) ≡ 96) × (now go ≡ Rows.enabledIn (now image))) ⌝ }
+    ensures { λ _. ⌜ now (t .exit) ≡ Swaps.maskRows (λ L. Swaps.swapsBy always free mask L (getD (now (c .entry)) L 0) (getD (now (d .entry)) L 0) (laneIn (now (image .entry)) L)) (λ L. bit (laneIn (now (image .entry)) L 12) 2) ⌝ }
 {
-    let mut chosen = [0u32; 32];
     let mut n: usize = 0;
     while n < 32 {
-        chosen[n] = keep(
-            (tests[n] == 1) & (index == (image[384 + n] / 4 % 2 == 1)),
-            1,
-            0,
+        let config = word_at(image, LANE_CONFIG, n);
+        let on = swap_mask(
+            go[n],
+            always,
+            free,
+            in_mask(mask, n as u8),
+            config,
+            c[n],
+            d[n],
         );
+        let index = on & full(config / 4 % 2 == 1);
+        t[n] = on;
+        t[32 + n] = on ^ index;
+        t[64 + n] = index;
         n += 1;
     }
-    chosen
 }
 
-// A swap's store to vc, or to vd: below 4 in every lane that swaps, from 4 to 7 where bit 2 is clear.
-fn swap_store(image: &mut [u32], r: u32, tests: &[u32; 32], plain: &[u32; 32], words: &[u32; 32])
-    requires { ⌜ length (now image) ≡ 768 ⌝ }
-    ensures { λ _. ⌜ now (image .exit) ≡ Rows.storing (now (image .entry)) (λ L. Rows.swapStored r (now (tests .entry)) (now (plain .entry)) (now (words .entry)) L) ⌝ }
+// The same for an instruction. Each call but the last has constants for the tests, so that each has a loop of its own once compiled.
+fn masks_of(image: &[u32], i: Insn, c: &[u32; 32], d: &[u32; 32], go: &[u32; 32], t: &mut [u32])
+    requires { ⌜ (length (now image) ≡ 768) × ((length (now t) ≡ 96) × (now go ≡ Rows.enabledIn (now image))) ⌝ }
+    ensures { λ _. ⌜ now (t .exit) ≡ Swaps.maskRows (λ L. Swaps.swapsBy (eqb (i .md) 0) (ltb (i .vd) 12) (Rules.maskOf (i .md)) L (getD (now (c .entry)) L 0) (getD (now (d .entry)) L 0) (laneIn (now (image .entry)) L)) (λ L. bit (laneIn (now (image .entry)) L 12) 2) ⌝ }
 {
-    if r < 4 {
-        store_rows(image, r as usize, tests, words);
-    } else if r < 8 {
-        store_rows(image, r as usize, plain, words);
-    }
-}
-
-// The exchange of two index registers.
-fn exchange(image: &mut [u32], ic: usize, id: usize, indexed: &[u32; 32])
-    requires { ⌜ (length (now image) ≡ 768) × ((ic < 24) × (id < 24)) ⌝ }
-    ensures { λ _. ⌜ now (image .exit) ≡ Rows.storing (now (image .entry)) (λ L. Rows.exchanged ic id (eqb (getD (now (indexed .entry)) L 0) 1) (laneIn (now (image .entry)) L)) ⌝ }
-{
-    let x = slot_row(image, ic);
-    let y = slot_row(image, id);
-    store_rows(image, ic, indexed, &y);
-    store_rows(image, id, indexed, &x);
-}
-
-// Whether any lane's test is 1.
-fn any(tests: &[u32; 32]) -> bool
-    ensures { λ r. ⌜ (r ≡ false → (L : ℕ) → L < 32 → eqb (getD (now (tests .entry)) L 0) 1 ≡ false) ⌝ }
-{
-    let mut n: usize = 0;
-    while n < 32 {
-        if tests[n] == 1 {
-            return true;
+    if i.vd < 12 {
+        if i.md == 0 {
+            swap_masks(image, true, true, 0, c, d, go, t);
+        } else {
+            swap_masks(image, false, true, mask_of(i.md), c, d, go, t);
         }
+    } else {
+        swap_masks(image, i.md == 0, false, mask_of(i.md), c, d, go, t);
+    }
+}
+
+// Two different registers exchanged in place: q's word to p under the masks from `a` on, and p's to q under those from `b` on. Both words are
+// chosen before the first store, so that the second reads nothing again.
+fn exchange(image: &mut [u32], p: usize, q: usize, t: &[u32; 96], a: usize, b: usize)
+    requires { ⌜ (length (now image) ≡ 768) × (Swaps.Masks (now t) × ((p ≡ q → ⊥) × (((p < 24) × (q < 24)) × ((a ≤ 64) × (b ≤ 64))))) ⌝ }
+    ensures { λ _. ⌜ now (image .exit) ≡ Rows.storing (now (image .entry)) (λ L. Swaps.exchanged p q (Swaps.marked (now (t .entry)) (a + L)) (Swaps.marked (now (t .entry)) (b + L)) (laneIn (now (image .entry)) L)) ⌝ }
+{
+    let mut n: usize = 0;
+    while n < 32 {
+        let x = word_at(image, p, n);
+        let y = word_at(image, q, n);
+        put(image, p, n, 0xFFFF_FFFF, masked(t[a + n], y, x));
+        put(image, q, n, 0xFFFF_FFFF, masked(t[b + n], x, y));
         n += 1;
     }
-    false
 }
 
-// The stores of a SWAP whose lanes' tests are known, vc and vd holding `c` and `d`.
-fn swap_stores(image: &mut [u32], i: Insn, tests: &[u32; 32], c: &[u32; 32], d: &[u32; 32])
-    requires { ⌜ length (now image) ≡ 768 ⌝ }
-    ensures { λ _. ⌜ now (image .exit) ≡ Rows.storing (now (image .entry)) (λ L. Rows.swapped i (eqb (getD (now (tests .entry)) L 0) 1) (getD (now (c .entry)) L 0) (getD (now (d .entry)) L 0) (laneIn (now (image .entry)) L)) ⌝ }
+// A row stored to register p under the masks from `a` on.
+fn store_part(image: &mut [u32], p: usize, t: &[u32; 96], a: usize, words: &[u32; 32])
+    requires { ⌜ (length (now image) ≡ 768) × (Swaps.Masks (now t) × ((p < 24) × (a ≤ 64))) ⌝ }
+    ensures { λ _. ⌜ now (image .exit) ≡ Rows.storing (now (image .entry)) (λ L. Swaps.storedUnder p (Swaps.marked (now (t .entry)) (a + L)) (getD (now (words .entry)) L 0)) ⌝ }
 {
-    let plain = index_tests(image, tests, false);
-    let indexed = index_tests(image, tests, true);
-    swap_store(image, i.vc, tests, &plain, d);
-    swap_store(image, i.vd, tests, &plain, c);
-    if any(&indexed) {
-        exchange(
-            image,
-            (4 + i.vc % 4) as usize,
-            (4 + i.vd % 4) as usize,
-            &indexed,
-        );
+    let mut n: usize = 0;
+    while n < 32 {
+        put(image, p, n, t[a + n], words[n]);
+        n += 1;
     }
 }
 
-// SWAP over all lanes.
-pub fn swap(image: &mut [u32], i: Insn)
-    ensures { λ _. ⌜ now (image .exit) ≡ Rows.whole (now (image .entry)) (Rows.storing (now (image .entry)) (λ L. Rules.swap i L (laneIn (now (image .entry)) L))) ⌝ }
+// Where the masks of a store to register r begin: below 4 every lane that swaps makes it, from 4 on those with bit 2 clear.
+fn masks_at(r: u32) -> usize
+    ensures { λ x. ⌜ (x ≤ 64) × (x ≡ Swaps.masksAt r) ⌝ }
 {
-    if image.len() == 768 {
-        let c = source(image, i.vc);
-        let d = source(image, i.vd);
-        let tests = swap_tests(image, mask_of(i.md), i, &c, &d);
-        swap_stores(image, i, &tests, &c, &d);
+    if r < 4 { 0 } else { 32 }
+}
+
+// The stores to vc and vd, whose rows are `c` and `d`, each only below 8.
+fn store_both(image: &mut [u32], i: Insn, c: &[u32; 32], d: &[u32; 32], t: &[u32; 96])
+    requires { ⌜ (length (now image) ≡ 768) × ((i .vc ≡ i .vd → ⊥) × (Swaps.Masks (now t) × ((now c ≡ Rows.row (λ L. reg L (laneIn (now image) L) (i .vc))) × (now d ≡ Rows.row (λ L. reg L (laneIn (now image) L) (i .vd)))))) ⌝ }
+    ensures { λ _. ⌜ now (image .exit) ≡ Rows.storing (now (image .entry)) (λ L. Swaps.storedBoth (i .vc) (i .vd) (now (t .entry)) L (laneIn (now (image .entry)) L)) ⌝ }
+{
+    if i.vc < 8 {
+        if i.vd < 8 {
+            exchange(
+                image,
+                i.vc as usize,
+                i.vd as usize,
+                t,
+                masks_at(i.vc),
+                masks_at(i.vd),
+            );
+        } else {
+            store_part(image, i.vc as usize, t, masks_at(i.vc), d);
+        }
+    } else if i.vd < 8 {
+        store_part(image, i.vd as usize, t, masks_at(i.vd), c);
+    }
+}
+
+// SWAP over all lanes. `t` is scratch for three rows of masks.
+pub(crate) fn swap(
+    image: &mut [u32],
+    i: Insn,
+    go: &[u32; 32],
+    fixed: &[u32; 128],
+    t: &mut [u32; 96],
+)
+    requires { ⌜ (length (now image) ≡ 768) × ((now go ≡ Rows.enabledIn (now image)) × (now fixed ≡ Rows.fixedRows)) ⌝ }
+    ensures { λ _. ⌜ now (image .exit) ≡ Rows.storing (now (image .entry)) (λ L. Rules.swap i L (laneIn (now (image .entry)) L)) ⌝ }
+{
+    if i.vc == i.vd {
+        return;
+    }
+    let c = source(image, fixed, i.vc);
+    let d = source(image, fixed, i.vd);
+    masks_of(image, i, &c, &d, go, t);
+    store_both(image, i, &c, &d, t);
+    let p = (4 + i.vc % 4) as usize;
+    let q = (4 + i.vd % 4) as usize;
+    if p != q {
+        exchange(image, p, q, t, 64, 64);
     }
 }

@@ -1,12 +1,9 @@
-use borrow.Author.Needs.{needs}
-use mathlib.Core.Path.{refl}
 use Rattle.lane.proofs.Cases.{if-true, if-false, if-le, if-gt, if-eq, if-ne}
 use Rattle.runner.proofs.checks.run_list_answer.Statement.{statement}
 use Rattle.runner.specs.Checks.{lengthsFirst, runListAnswer}
+use borrow.Author.Needs.{needs}
+use mathlib.Core.Path.{refl}
 use Rattle.runner.proofs.checks.run_list_answer.Tie as tie
-
-settings-good-requires : tie.Need-settings-good-requires
-settings-good-requires c κs = search needs
 
 returns : tie.Need-returns
 unfolding runListAnswer lengthsFirst
@@ -15,12 +12,6 @@ returns c = if-true _ _ _ _ (rw (c .before .before .settings-good .ensures) at (
 returns-2 : tie.Need-returns-2
 unfolding runListAnswer lengthsFirst
 returns-2 c = if-true _ _ _ _ (rw (c .before .before .before .settings-good .ensures) at (c .before .before .if1 .taken)) (if-eq _ _ _ _ _ (c .before .if2 .left) (if-gt _ _ _ _ _ (c .if3 .taken) refl))
-
-image-good-requires : tie.Need-image-good-requires
-image-good-requires c κs = search needs
-
-scanned-requires : tie.Need-scanned-requires
-scanned-requires c κs = search needs
 
 returns-3 : tie.Need-returns-3
 unfolding runListAnswer lengthsFirst
@@ -36,13 +27,4 @@ returns-5 c = if-false _ _ _ _ (rw (c .before .settings-good .ensures) at (c .if
 
 pub run-list-answer-spec : {M : Type 1} → statement M
 run-list-answer-spec =
-    tie.close
-    (tie.spec
-    settings-good-requires
-    returns
-    returns-2
-    image-good-requires
-    scanned-requires
-    returns-3
-    returns-4
-    returns-5)
+    tie.close (tie.spec (λ c κs. search needs) returns returns-2 (λ c κs. search needs) (λ c κs. search needs) returns-3 returns-4 returns-5)

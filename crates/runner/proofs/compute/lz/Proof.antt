@@ -1,29 +1,25 @@
-use borrow.Author.Needs.{needs}
+use Rattle.runner.proofs.ComputeRows.{lz-flagged, untouched, words-enabled}
 use Rattle.runner.proofs.Filled.{operand}
-use Rattle.runner.proofs.Made.{whole-same, whole-none, whole-not}
-use Rattle.runner.proofs.Operands.{lz-lane, no-lz}
+use Rattle.runner.proofs.Lanes.{storing-same, storing-none}
+use Rattle.runner.proofs.Operands.{no-lz}
 use Rattle.runner.proofs.compute.lz.Statement.{statement}
 use Rattle.runner.specs.Image.{laneIn}
+use borrow.Author.Needs.{needs}
+use mathlib.Core.Path.{sym, _∙_}
 use Rattle.runner.proofs.compute.lz.Tie as tie
 
-source-requires : tie.Need-source-requires
-source-requires c κs = search needs
-
-lz-rows-requires : tie.Need-lz-rows-requires
-lz-rows-requires c κs = search needs
-
-same-length : tie.Need-same-length
-same-length c = search needs
-
 returns : tie.Need-returns
-returns c = whole-same _ _ _ _ (c .before .before .before .before .before .before .before .before .before .if1 .taken) (c .before .before .lz-rows .ensures) (λ L l. lz-lane (c .before .before .before .before .before .before .before .before .before .before .before .args .i) L (laneIn (c .before .before .before .before .before .before .before .before .before .before .before .args .image .now) L) _ (operand _ _ (c .before .before .before .before .before .source .ensures) L l))
+returns c = (c .before .before .flagged-rows .ensures .0 ∙ storing-same _ _ _ (λ L l. lz-flagged (c .before .before .before .before .before .before .before .before .before .before .before .before .before .before .before .before .args .i) L (laneIn (c .before .before .before .before .before .before .before .before .before .before .before .before .before .before .before .before .args .image .now) L) _ _ (operand _ _ (c .before .before .before .before .before .before .before .before .before .before .before .source .ensures) L l) (operand _ _ (c .before .before .before .before .before .before .before .before .before .lz-words .ensures) L l)), c .before .before .flagged-rows .ensures .1)
 
 returns-2 : tie.Need-returns-2
-returns-2 c = whole-none _ _ (c .before .before .if1 .taken) (λ L l. no-lz (c .before .before .before .before .args .i) L (laneIn (c .before .before .before .before .args .image .now) L) (c .if2 .left))
+returns-2 c = (untouched 12 _ _ _ _ _ (sym (c .before .before .before .before .before .before .before .before .touches .ensures) ∙ c .before .before .before .before .before .before .before .if2 .left) (c .before .before .word-rows .ensures) ∙ storing-same _ _ _ (λ L l. lz-flagged (c .before .before .before .before .before .before .before .before .before .before .before .before .before .before .before .before .before .args .i) L (laneIn (c .before .before .before .before .before .before .before .before .before .before .before .before .before .before .before .before .before .args .image .now) L) _ _ (operand _ _ (c .before .before .before .before .before .before .before .before .before .before .before .before .source .ensures) L l) (operand _ _ (c .before .before .before .before .before .before .before .before .before .before .lz-words .ensures) L l)), words-enabled 12 _ _ _ _ _ _ (c .before .before .before .before .before .before .before .before .before .before .before .before .before .before .before .before .before .pre .1 .0) (c .before .before .word-rows .ensures))
 
 returns-3 : tie.Need-returns-3
-returns-3 c = whole-not _ _ (c .if1 .left)
+returns-3 c = (sym (storing-none _ _ (c .before .before .before .pre .0) (λ L l. no-lz (c .before .before .before .args .i) L (laneIn (c .before .before .before .args .image .now) L) (c .if1 .left))), c .before .before .before .pre .1 .0)
 
 pub lz-spec : {M : Type 1} → statement M
 lz-spec =
-    tie.close (tie.spec source-requires lz-rows-requires same-length returns returns-2 returns-3)
+    tie.close
+    (tie.spec
+    (λ c κs. search needs) (λ c κs. search needs) (λ c κs. search needs) (λ c κs. search needs) (λ c κs. search needs) (λ c. search needs) returns
+    (λ c. search needs) returns-2 returns-3)

@@ -1,23 +1,14 @@
+use Rattle.lane.proofs.Cases.{if-lt, if-ge, if-eq, if-ne}
+use Rattle.runner.proofs.config.config_slot.Statement.{statement}
+use Rattle.runner.specs.ConfigRows.{configSlot}
 use borrow.Author.Needs.{needs}
 use mathlib.Core.Path.{refl}
 use native.Mathlib.Omega.{arith}
-use Rattle.lane.proofs.Cases.{if-lt, if-ge, if-eq, if-ne}
-use Rattle.runner.proofs.config.config_slot.Statement.{statement}
-use Rattle.runner.specs.Rows.{configSlot}
 use Rattle.runner.proofs.config.config_slot.Tie as tie
-
-add-result : tie.Need-add-result
-add-result c = search needs
 
 returns : tie.Need-returns
 unfolding configSlot
 returns c = (if-lt _ _ _ _ _ (c .if1 .taken) refl, omega arith)
-
-sub-result : tie.Need-sub-result
-sub-result c = search needs
-
-add-result-2 : tie.Need-add-result-2
-add-result-2 c = search needs
 
 returns-2 : tie.Need-returns-2
 unfolding configSlot
@@ -26,9 +17,6 @@ returns-2 c = (if-ge _ _ _ _ _ (c .before .if1 .left) (if-lt _ _ _ _ _ (c .if2 .
 returns-3 : tie.Need-returns-3
 unfolding configSlot
 returns-3 c = (if-ge _ _ _ _ _ (c .before .before .if1 .left) (if-ge _ _ _ _ _ (c .before .if2 .left) (if-eq _ _ _ _ _ (c .if3 .taken) refl)), omega arith)
-
-sub-result-2 : tie.Need-sub-result-2
-sub-result-2 c = search needs
 
 returns-4 : tie.Need-returns-4
 unfolding configSlot
@@ -42,12 +30,4 @@ pub config-slot-spec : {M : Type 1} → statement M
 config-slot-spec =
     tie.close
     (tie.spec
-    add-result
-    returns
-    sub-result
-    add-result-2
-    returns-2
-    returns-3
-    sub-result-2
-    returns-4
-    returns-5)
+    (λ c. search needs) returns (λ c. search needs) (λ c. search needs) returns-2 returns-3 (λ c. search needs) returns-4 returns-5)

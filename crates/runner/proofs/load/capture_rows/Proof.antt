@@ -1,40 +1,34 @@
-use Prim.Native.Nat.{_-_, ℕ}
+use Prim.Native.Nat.{ℕ, _+_, _*_, _-_, _%_}
+use Rattle.lane.specs.Load.{captures}
+use Rattle.lane.specs.Words.{Lane, laneConfig}
+use Rattle.runner.proofs.Lanes.{turn-start, turned-length, turn-lane, turn-end, Turned}
+use Rattle.runner.proofs.LoadRows.{masked-turn, capture-mask, capture-made}
+use Rattle.runner.proofs.load.capture_rows.Statement.{statement}
+use Rattle.runner.specs.LoadRows.{isOpen, capturedOnly}
 use borrow.Author.Needs.{needs}
 use lib.ListN.{getD}
-use mathlib.Core.Path.{sym, _∙_}
+use mathlib.Core.Bool.{_&&_}
+use mathlib.Core.Path.{sym, ap, _∙_}
 use native.Mathlib.Omega.{arith}
-use Rattle.lane.specs.Words.{Lane}
-use Rattle.runner.proofs.Lanes.{turn-start, turned-length, turn-more, turn-end, Turned}
-use Rattle.runner.proofs.load.capture_rows.Statement.{statement}
-use Rattle.runner.specs.Rows.{capturedOnly, placeIn}
 use Rattle.runner.proofs.load.capture_rows.Tie as tie
 
 abbrev Inv-loop : tie.InvT-loop
-Inv-loop image₀ vd a heads n₀ image n = Turned (λ (L : ℕ) (own : Lane). capturedOnly vd (placeIn a (getD heads L 0) L) own) image₀ n image
+Inv-loop image₀ vd first odds opens n₀ image n = Turned (λ (L : ℕ) (own : Lane). capturedOnly vd (first + 2 * L + getD odds L 0 % 2) own) image₀ n image
 
 abbrev μ-loop : tie.MeasureT-loop
-μ-loop image₀ vd a heads n₀ image n = 32 - n
+μ-loop image₀ vd first odds opens n₀ image n = 32 - n
 
 loop-holds : tie.Need-loop-holds Inv-loop μ-loop
 loop-holds c = turn-start _ _ (c .before .pre .0)
 
-mul-capture-at : tie.Need-mul-capture-at Inv-loop μ-loop
-mul-capture-at c = search needs
+word-at-requires : tie.Need-word-at-requires Inv-loop μ-loop
+word-at-requires c κs = (turned-length _ _ _ _ (c .before .before .before .loop .inv), (omega arith, c .before .before .loop-test .taken))
 
-element-copy-out-capture-at : tie.Need-element-copy-out-capture-at Inv-loop μ-loop
-element-copy-out-capture-at c = search needs
-
-capture-at-requires : tie.Need-capture-at-requires Inv-loop μ-loop
-capture-at-requires c κs = (turned-length _ _ _ _ (c .before .before .before .loop .inv), (c .before .before .loop-test .taken, c .before .before .before .before .before .pre .1))
-
-add-n : tie.Need-add-n Inv-loop μ-loop
-add-n c = omega arith
-
-loop-less : tie.Need-loop-less Inv-loop μ-loop
-loop-less c = omega arith
+put-requires : tie.Need-put-requires Inv-loop μ-loop
+put-requires c κs = (turned-length _ _ _ _ (c .before .before .before .before .before .before .before .before .loop .inv), (omega (arith, c .before .before .before .before .before .before .before .before .before .before .pre .1 .0), c .before .before .before .before .before .before .before .loop-test .taken))
 
 loop-again : tie.Need-loop-again Inv-loop μ-loop
-loop-again c = turn-more _ _ _ _ _ (c .before .before .before .before .before .before .before .before .pre .0) (c .before .before .before .before .before .loop-test .taken) (c .before .before .before .before .before .before .loop .inv) (c .before .before .capture-at .ensures)
+loop-again c = masked-turn _ (λ (own : Lane). isOpen own && captures (c .before .before .before .before .before .before .before .before .before .before .before .before .before .args .vd) (own laneConfig)) _ _ _ _ _ _ _ (c .before .before .before .before .before .before .before .before .before .before .before .before .before .pre .0) (c .before .before .before .before .before .before .before .before .before .before .loop-test .taken) (c .before .before .before .before .before .before .before .before .before .before .before .loop .inv) (capture-mask _ _ _ (c .before .before .before .before .before .before .before .before .before .before .before .before .before .args .vd) _ _ _ (c .before .before .before .before .before .before .before .before .before .before .before .before .before .pre .1 .1 .1) (c .before .before .before .before .before .before .before .before .before .before .loop-test .taken) (c .before .before .before .before .before .full .ensures) (c .before .before .before .before .before .before .captures .ensures) (c .before .before .before .before .before .before .before .word-at .ensures ∙ ap (λ (own : Lane). own laneConfig) (turn-lane _ _ _ _ (c .before .before .before .before .before .before .before .before .before .before .before .before .before .pre .0) (c .before .before .before .before .before .before .before .before .before .before .loop-test .taken) (c .before .before .before .before .before .before .before .before .before .before .before .loop .inv)))) (c .before .before .put .ensures) (capture-made _ _ _ (omega (arith, c .before .before .before .before .before .before .before .before .before .before .before .before .before .pre .1 .0)))
 
 same-length : tie.Need-same-length Inv-loop μ-loop
 same-length c = turned-length _ _ _ _ (c .before .loop .inv) ∙ sym (c .before .before .before .pre .0)
@@ -46,14 +40,6 @@ pub capture-rows-spec : {M : Type 1} → statement M
 capture-rows-spec =
     tie.close
     (tie.spec
-    Inv-loop
-    μ-loop
-    loop-holds
-    mul-capture-at
-    element-copy-out-capture-at
-    capture-at-requires
-    add-n
-    loop-less
-    loop-again
-    same-length
-    returns)
+    Inv-loop μ-loop loop-holds (λ c. search needs) (λ c. search needs) (λ c. search needs) word-at-requires (λ c κs. search needs)
+    (λ c κs. search needs) (λ c. search needs) (λ c. search needs) (λ c. search needs) (λ c. search needs) (λ c. search needs) (λ c. search needs)
+    (λ c. search needs) put-requires (λ c. omega arith) (λ c. omega arith) loop-again same-length returns)

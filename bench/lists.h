@@ -1,0 +1,26 @@
+/* The lists and images that are timed, the same on every machine. */
+#ifndef LISTS_H
+#define LISTS_H
+
+#include <stddef.h>
+#include <stdint.h>
+
+enum { LIST_IMAGE = 768, LIST_DST = 16384, LIST_WORDS = 6144 };
+
+/* In a quiet image every lane is enabled and LaneConfig is 0; in a mixed one flags and the meaning bits of LaneConfig differ by lane. */
+enum image_kind { QUIET, MIXED, IMAGE_KINDS };
+
+struct list {
+    const char *name;
+    size_t count;                                       /* instructions */
+    uint32_t words[LIST_WORDS];                         /* six an instruction */
+    uint32_t image[IMAGE_KINDS][LIST_IMAGE];
+};
+
+extern const uint32_t list_settings[8];
+extern uint16_t list_dst[LIST_DST];
+
+/* Makes the k-th list, and its images; NULL past the last. What it hands out stands until the next call. */
+const struct list *make_list(unsigned k);
+
+#endif

@@ -1,0 +1,140 @@
+-- The computing operations, from rows of operands to the rules of each lane. Assumes nothing.
+use mathlib.Core.Path.{_≡_, refl, sym, ap, _∙_}
+use Prim.Native.Nat.{ℕ, zero, suc, _/_, _%_, _<_}
+use native.Mathlib.Decide.{ℕ-discrete}
+use native.Mathlib.Omega.{arith}
+use mathlib.Core.Bool.{Bool, true, false, not, _&&_, _||_, true≢false}
+use mathlib.Core.List.{List, [], _∷_}
+use lib.Count.{leadingZeros, leading-le}
+use lib.Dec.{eqb, ltb}
+use borrow.Author.Tests.{lt-ltb, ne-eqb}
+use Rattle.lane.specs.declared.Insn.{Insn}
+use Rattle.lane.specs.Words.{pick, has, Lane, Stores, laneFlag, enabled, reg, upd, after}
+use Rattle.lane.specs.Compute.{computes, wordOnly, wordAndFlag, flagAfter, lzOperand, lzWord, valueWord, valuedWith, valued, iaddWith, iadd, lzWith, lz, exexpWith, exexp}
+use Rattle.lane.proofs.Cases.{pick-true, pick-false, has-one}
+use Rattle.lane.proofs.Stores.{upd-same, upd-other}
+use Rattle.runner.specs.Image.{laneIn}
+use Rattle.runner.specs.Rows.{row, enabledIn, storing}
+use Rattle.runner.specs.ComputeRows.{setsFlags, wordOf, truthOf, wordWith, flaggedWith}
+use Rattle.runner.proofs.Lanes.{same-lanes}
+use Rattle.runner.proofs.Enabled.{quiet-enabled}
+use Rattle.runner.proofs.Quiet.{quiet-word}
+use Rattle.runner.proofs.Operands.{reg-low, vb-unread, valued-lane}
+
+-- ---- a word alone
+
+neither : (a b : Bool) → (a || b) ≡ false → (a ≡ false) × (b ≡ false)
+neither true b e = absurd (true≢false e)
+neither false b e = (refl, e)
+
+word-is : (op : ℕ) (i : Insn) (b c d : ℕ) → setsFlags op ≡ false → wordOf op i b c d ≡ valueWord op (i .md) b c d
+unfolding wordOf pick
+word-is op i b c d e =
+    let p = neither (eqb op 6) (eqb op 12 || eqb op 13) e in
+    let q = neither (eqb op 12) (eqb op 13) (p .1) in
+    simp (p .0, q .0, q .1)
+
+valued-with : (op : ℕ) (i : Insn) (b c : ℕ) (own : Lane) → setsFlags op ≡ false → wordWith op i b c own ≡ valuedWith op i b c (own (i .vd)) own
+unfolding wordWith valuedWith
+valued-with op i b c own e = ap (λ (w : ℕ). wordOnly (i .vd) w own) (word-is op i b c (own (i .vd)) e)
+
+-- vb's row is not read
+pub valued-one : (op : ℕ) (i : Insn) (L : ℕ) (own : Lane) (b c : ℕ) → setsFlags op ≡ false → (eqb op 8 || eqb op 9) ≡ false → i .vd < 8 → c ≡ reg L own (i .vc)
+    → wordWith op i b c own ≡ valued op i L own
+valued-one op i L own b c e u h k =
+    valued-with op i b c own e
+    ∙ vb-unread op i b (reg L own (i .vb)) c (own (i .vd)) own (ap (λ (t : Bool). t && has (i .md) 1) u)
+    ∙ valued-lane op i L own (reg L own (i .vb)) c h refl k
+
+-- vb's row, or vd's where mod is even
+pub valued-two : (op : ℕ) (i : Insn) (L : ℕ) (own : Lane) (b c r : ℕ) → setsFlags op ≡ false → i .vd < 8
+    → r ≡ pick (eqb (i .md % 2) 1) (i .vb) (i .vd) → b ≡ reg L own r → c ≡ reg L own (i .vc)
+    → wordWith op i b c own ≡ valued op i L own
+valued-two op i L own b c r e h er eb k =
+    valued-with op i b c own e ∙ by (has (i .md) 1) refl ∙ valued-lane op i L own (reg L own (i .vb)) c h refl k
+  where
+    by : (t : Bool) → has (i .md) 1 ≡ t → valuedWith op i b c (own (i .vd)) own ≡ valuedWith op i (reg L own (i .vb)) c (own (i .vd)) own
+    by true q =
+        ap (λ (x : ℕ). valuedWith op i x c (own (i .vd)) own)
+        (eb ∙ ap (λ (x : ℕ). reg L own x) (er ∙ pick-true (eqb (i .md % 2) 1) (i .vb) (i .vd) (sym (has-one (i .md)) ∙ q)))
+    by false q = vb-unread op i b (reg L own (i .vb)) c (own (i .vd)) own (ap (λ (t : Bool). (eqb op 8 || eqb op 9) && t) q ∙ none (eqb op 8 || eqb op 9))
+      where
+        none : (t : Bool) → (t && false) ≡ false
+        none true = refl
+        none false = refl
+
+-- ---- a word and a flag
+
+pub iadd-flagged : (i : Insn) (L : ℕ) (own : Lane) (c : ℕ) → i .vd < 8 → c ≡ reg L own (i .vc) → flaggedWith 6 i (not (has (i .md) 4)) c own ≡ iadd i L own
+unfolding flaggedWith wordOf truthOf pick iadd iaddWith
+iadd-flagged i L own c h e = cc (reg-low L own (i .vd) h)
+
+pub exexp-flagged : (i : Insn) (L : ℕ) (own : Lane) (c : ℕ) → c ≡ reg L own (i .vc) → flaggedWith 13 i (has (i .md) 2) c own ≡ exexp i L own
+unfolding flaggedWith wordOf truthOf pick exexp exexpWith
+exexp-flagged i L own c e = cc
+
+-- 32 zeros are counted in no word but 0
+count-below : (x : ℕ) → ltb (leadingZeros 32 x) 32 ≡ not (eqb x 0)
+unfolding leadingZeros
+count-below zero = refl
+count-below (suc n) =
+    lt-ltb (leadingZeros 31 (suc n / 2)) 32 (omega (arith, leading-le 31 (suc n / 2))) ∙ sym (ap not (ne-eqb (suc n) 0 (λ e. omega arith)))
+
+pub lz-flagged : (i : Insn) (L : ℕ) (own : Lane) (c w : ℕ) → c ≡ reg L own (i .vc) → w ≡ lzWord (i .md) c → flaggedWith 12 i (has (i .md) 2) w own ≡ lz i L own
+unfolding flaggedWith wordOf truthOf pick lz lzWith
+lz-flagged i L own c w e k =
+    ap (λ (x : ℕ). wordAndFlag (i .vd) x (flagAfter (has (i .md) 2) (ltb x 32) (i .md) (own laneFlag)) own) (k ∙ ap (λ (x : ℕ). lzWord (i .md) x) e)
+    ∙ ap (λ (t : Bool). wordAndFlag (i .vd) (lzWord (i .md) (reg L own (i .vc))) (flagAfter (has (i .md) 2) t (i .md) (own laneFlag)) own)
+    (count-below (lzOperand (i .md) (reg L own (i .vc))))
+
+-- ---- where no flag is set and none inverted
+
+untouched-flag : (sets t : Bool) (m old : ℕ) → (sets || has m 8) ≡ false → flagAfter sets t m old ≡ old
+unfolding flagAfter pick
+untouched-flag sets t m old e = let p = neither sets (has m 8) e in simp (p .0, p .1)
+
+-- the flag stored again is none stored
+same-flag : (vd w : ℕ) (own : Lane) (s : ℕ) → after (wordOnly vd w own) own s ≡ after (wordAndFlag vd w (own 13) own) own s
+unfolding wordOnly wordAndFlag after
+same-flag vd w own s = by (computes vd own) refl (ℕ-discrete s 13) (ℕ-discrete 13 vd)
+  where
+    by : (t : Bool) → computes vd own ≡ t → Dec (s ≡ 13) → Dec (13 ≡ vd)
+        → after (pick (computes vd own) ((vd, w) ∷ []) []) own s ≡ after (pick (computes vd own) ((vd, w) ∷ (13, own 13) ∷ []) []) own s
+    by false q d f =
+        ap (λ (x : Stores). after x own s) (pick-false (computes vd own) ((vd, w) ∷ []) [] q)
+        ∙ sym (ap (λ (x : Stores). after x own s) (pick-false (computes vd own) ((vd, w) ∷ (13, own 13) ∷ []) [] q))
+    by true q (no d) f =
+        ap (λ (x : Stores). after x own s) (pick-true (computes vd own) ((vd, w) ∷ []) [] q)
+        ∙ sym
+        (ap (λ (x : Stores). after x own s) (pick-true (computes vd own) ((vd, w) ∷ (13, own 13) ∷ []) [] q)
+        ∙ upd-other (upd own vd w) 13 (own 13) s d)
+    by true q (yes d) (no f) =
+        ap (λ (x : Stores). after x own s) (pick-true (computes vd own) ((vd, w) ∷ []) [] q)
+        ∙ ap (λ (k : ℕ). upd own vd w k) d ∙ upd-other own vd w 13 f
+        ∙ sym
+        (ap (λ (x : Stores). after x own s) (pick-true (computes vd own) ((vd, w) ∷ (13, own 13) ∷ []) [] q)
+        ∙ ap (λ (k : ℕ). upd (upd own vd w) 13 (own 13) k) d ∙ upd-same (upd own vd w) 13 (own 13))
+    by true q (yes d) (yes f) = absurd (low q f)
+      where
+        low : computes vd own ≡ true → 13 ≡ vd → ⊥
+        low q f = true≢false (sym q ∙ ap (λ (k : ℕ). ltb k 8 && enabled own) (sym f))
+
+pub untouched : (op : ℕ) (i : Insn) (sets : Bool) (c : ℕ → ℕ) (image x : List ℕ) → (sets || has (i .md) 8) ≡ false
+    → x ≡ storing image (λ L. wordWith op i (c L) (c L) (laneIn image L))
+    → x ≡ storing image (λ L. flaggedWith op i sets (c L) (laneIn image L))
+unfolding storing wordWith flaggedWith
+untouched op i sets c image x e p =
+    p
+    ∙ same-lanes _ _
+    (λ L s hL hs.
+    same-flag (i .vd) (wordOf op i (c L) (c L) (laneIn image L (i .vd))) (laneIn image L) s
+    ∙ ap (λ (f : ℕ). after (wordAndFlag (i .vd) (wordOf op i (c L) (c L) (laneIn image L (i .vd))) f (laneIn image L)) (laneIn image L) s)
+    (sym (untouched-flag sets _ (i .md) (laneIn image L 13) e)))
+
+-- the row of enabled lanes stays
+pub words-enabled : (op : ℕ) (i : Insn) (b c : ℕ → ℕ) (image x go : List ℕ) → go ≡ enabledIn image
+    → x ≡ storing image (λ L. wordWith op i (b L) (c L) (laneIn image L))
+    → go ≡ enabledIn x
+unfolding wordWith
+words-enabled op i b c image x go g p =
+    g ∙ quiet-enabled image _ (λ L l. quiet-word (i .vd) _ (laneIn image L)) ∙ ap enabledIn (sym p)

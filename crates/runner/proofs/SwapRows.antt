@@ -1,0 +1,467 @@
+-- SWAP by rows: keys are in the order of ranks, the masks are those of the rule's tests, and the stores under them are in each lane those of the
+-- rule. Assumes nothing.
+use mathlib.Core.Path.{_≡_, refl, sym, ap, _∙_, fun-ext}
+use Prim.Native.Nat.{ℕ, _+_, _-_, _*_, _/_, _%_, _^_, _<_, _≤_}
+use native.Mathlib.Omega.{arith}
+use native.Mathlib.Decide.{ℕ-discrete}
+use mathlib.Core.Bool.{Bool, true, false, not, Bool·beq, _&&_, _||_}
+use mathlib.Core.List.{List, [], _∷_, _++_, append-assoc}
+use lib.ListN.{length, getD, set, length-set}
+use lib.Bits.{bitAnd, bitOr, bitXor, and-mask, xor-add-and, xor-shifted, xor-comm}
+use lib.Dec.{eqb, ltb, leb}
+use borrow.Author.Tests.{lt-ltb, le-ltb, le-leb, lt-leb, eq-eqb, ne-eqb}
+use Rattle.lane.specs.declared.Insn.{Insn}
+use Rattle.lane.specs.Words.{pick, bit, Lane, Stores, reg, upd, after, enabled}
+use Rattle.lane.specs.Swap.{rank, ranksBelow, below, plainSwap, indexSwap, indexOf, swapWith, swap, maskOf, swaps}
+use Rattle.lane.proofs.Cases.{pick-true, pick-false}
+use Rattle.lane.proofs.Ranks.{swaps-is}
+use Rattle.lane.proofs.Stores.{getD-build, upd-same, upd-other, after-append}
+use Rattle.runner.specs.Image.{laneIn}
+use Rattle.runner.specs.Rows.{storing, storingIn, row, full}
+use Rattle.runner.specs.SwapRows.{key, swapsBy, part, maskRows, marked, Masks, storedUnder, exchanged, masksAt, storedTo, storedBoth}
+use Rattle.runner.proofs.Lanes.{split, same-lanes, own-lanes, storing-same, storing-then, lane-storing, storing-none, in-then}
+use Rattle.runner.proofs.Filled.{Spread, put-holds, operand}
+use Rattle.runner.proofs.Operands.{reg-low}
+
+-- ---- keys
+
+without : (x y a : ℕ) → x < 2 ^ 32 → y + a * 2 ≡ x + 0xFFFFFFFF → a ≡ x % 2 ^ 32 → y ≡ 0xFFFFFFFF - x
+without x y a h e k = omega arith
+
+other-way : (x y : ℕ) → y ≡ 0x80000000 + x → y ≡ x + 0x80000000
+other-way x y e = omega arith
+
+pub key-is : (x m : ℕ) → x < 2 ^ 32 → m ≡ full (leb 0x80000000 x) → bitXor x (bitOr m 0x80000000) ≡ key x
+unfolding key full pick
+key-is x m h e =
+    ap (λ (k : ℕ). bitXor x (bitOr k 0x80000000)) e
+    ∙ split x 0x80000000
+    (λ k. simp (le-leb 0x80000000 x k, le-ltb x 0x80000000 k) (turned k))
+    (λ k. simp (lt-leb 0x80000000 x k, lt-ltb x 0x80000000 k) (raised k))
+  where
+    turned : 0x80000000 ≤ x → bitXor x 0xFFFFFFFF ≡ 0xFFFFFFFF - x
+    turned k = without x (bitXor x 0xFFFFFFFF) (bitAnd x 0xFFFFFFFF) h (xor-add-and x 0xFFFFFFFF) (and-mask x 32)
+
+    raised : x < 0x80000000 → bitXor x 0x80000000 ≡ x + 0x80000000
+    raised k = xor-comm x 0x80000000 ∙ other-way x (bitXor 0x80000000 x) (xor-shifted 1 31 x k)
+
+same-order : (a b c d : ℕ) → (a < b → c < d) → (b ≤ a → d ≤ c) → ltb a b ≡ ltb c d
+same-order a b c d f g = split a b (λ h. le-ltb a b h ∙ sym (le-ltb c d (g h))) (λ h. lt-ltb a b h ∙ sym (lt-ltb c d (f h)))
+
+key-order : (c d : ℕ) → c < 2 ^ 32 → d < 2 ^ 32 → ltb (key c) (key d) ≡ ranksBelow c d
+unfolding key ranksBelow rank pick
+key-order c d fc fd =
+    split c (2 ^ 31)
+    (λ hc.
+    split d (2 ^ 31)
+    (λ hd.
+    simp (le-ltb c (2 ^ 31) hc, le-ltb d (2 ^ 31) hd)
+    (same-order (0xFFFFFFFF - c) (0xFFFFFFFF - d) (d % 2 ^ 31) (c % 2 ^ 31) (λ h. omega arith) (λ h. omega arith)))
+    (λ hd. simp (le-ltb c (2 ^ 31) hc, lt-ltb d (2 ^ 31) hd) (lt-ltb (0xFFFFFFFF - c) (d + 0x80000000) (omega arith))))
+    (λ hc.
+    split d (2 ^ 31)
+    (λ hd. simp (lt-ltb c (2 ^ 31) hc, le-ltb d (2 ^ 31) hd) (le-ltb (c + 0x80000000) (0xFFFFFFFF - d) (omega arith)))
+    (λ hd.
+    simp (lt-ltb c (2 ^ 31) hc, lt-ltb d (2 ^ 31) hd)
+    (same-order (c + 0x80000000) (d + 0x80000000) c d (λ h. omega arith) (λ h. omega arith))))
+
+-- ---- masks
+
+both-full : (s t : Bool) → bitAnd (full s) (full t) ≡ full (s && t)
+unfolding full pick
+both-full true true = refl
+both-full true false = refl
+both-full false true = refl
+both-full false false = refl
+
+rest-full : (s t : Bool) → bitXor (full s) (full (s && t)) ≡ full (s && not t)
+unfolding full pick
+rest-full true true = refl
+rest-full true false = refl
+rest-full false true = refl
+rest-full false false = refl
+
+marks : (t : Bool) → eqb (full t) 0xFFFFFFFF ≡ t
+unfolding full pick
+marks true = refl
+marks false = refl
+
+-- the mask of a lane, m being the mask of its tests but for `enabled`
+pub mask-made : (go m kc kd c d : ℕ) (always acting minimum reversed e : Bool) → c < 2 ^ 32 → d < 2 ^ 32 → kc ≡ key c → kd ≡ key d
+    → m ≡ full (acting && (always || not (Bool·beq reversed (Bool·beq minimum (ltb kc kd)))))
+    → go ≡ full e
+    → bitAnd go m ≡ full ((acting && e) && swaps always minimum reversed c d)
+mask-made go m kc kd c d always acting minimum reversed e fc fd p q r g =
+    ap (λ (x : ℕ). bitAnd x m) g
+    ∙ ap (λ (x : ℕ). bitAnd (full e) x)
+    (r ∙ ap (λ (b : Bool). full (acting && (always || not (Bool·beq reversed (Bool·beq minimum b))))) (order p q))
+    ∙ both-full e _
+    ∙ ap full (turn e acting _)
+    ∙ ap (λ (b : Bool). full ((acting && e) && b)) (swaps-is always minimum reversed c d)
+  where
+    order : kc ≡ key c → kd ≡ key d → ltb kc kd ≡ ranksBelow c d
+    order p q = rw (p, q) (key-order c d fc fd)
+
+    turn : (e a s : Bool) → (e && (a && s)) ≡ ((a && e) && s)
+    turn true true s = refl
+    turn true false s = refl
+    turn false true s = refl
+    turn false false s = refl
+
+-- three rows of 32
+three-more : (g : ℕ → ℕ) (n : ℕ) (words : List ℕ) (a b c : ℕ) → n < 32 → Spread g 32 96 n words
+    → a ≡ g n → b ≡ g (32 + n) → c ≡ g (64 + n)
+    → Spread g 32 96 (n + 1) (set (set (set words n a) (32 + n) b) (64 + n) c)
+three-more g n words a b c l h ea eb ec =
+    record { within = omega arith; long = simp length-set (h .long); made = at }
+  where
+    at : (p : ℕ) → p < 96 → p % 32 < n + 1 → getD (set (set (set words n a) (32 + n) b) (64 + n) c) p 0 ≡ g p
+    at p k r =
+        put-holds g (set (set words n a) (32 + n) b) (64 + n) c p (simp length-set (omega (arith, h .long))) ec
+        (λ nc.
+        put-holds g (set words n a) (32 + n) b p (simp length-set (omega (arith, h .long))) eb
+        (λ nb. put-holds g words n a p (omega (arith, h .long)) ea (λ na. h .made p k (omega arith))))
+
+module _ (T ix : ℕ → Bool) where
+  -- the word of the rows at k
+  abbrev pub maskIn : ℕ → ℕ
+  maskIn k = full (part (k / 32) (T (k % 32)) (ix (k % 32)))
+
+  mask-in : (q L k : ℕ) → L < 32 → k ≡ 32 * q + L → full (part q (T L) (ix L)) ≡ maskIn k
+  mask-in q L k l e = go (k / 32) (k % 32) (omega arith) (omega arith)
+    where
+      go : (a b : ℕ) → q ≡ a → L ≡ b → full (part q (T L) (ix L)) ≡ full (part a (T b) (ix b))
+      go a b p r = cc
+
+  -- a turn's three words
+  pub masks-more : (n : ℕ) (words : List ℕ) (w m : ℕ) → n < 32 → Spread maskIn 32 96 n words → w ≡ full (T n) → m ≡ full (ix n)
+      → Spread maskIn 32 96 (n + 1) (set (set (set words n w) (32 + n) (bitXor w (bitAnd w m))) (64 + n) (bitAnd w m))
+  unfolding part pick
+  masks-more n words w m l h e k =
+      three-more maskIn n words w (bitXor w (bitAnd w m)) (bitAnd w m) l h (e ∙ mask-in 0 n n l (omega arith))
+      (rw (indexed, e) (rest-full (T n) (ix n)) ∙ mask-in 1 n (32 + n) l (omega arith))
+      (indexed ∙ mask-in 2 n (64 + n) l (omega arith))
+    where
+      indexed : bitAnd w m ≡ full (T n && ix n)
+      indexed = rw (e, k) (both-full (T n) (ix n))
+
+  module _ (t : List ℕ) (e : t ≡ maskRows T ix) where
+    mask-at : (k : ℕ) → k < 96 → getD t k 0 ≡ maskIn k
+    unfolding maskRows
+    mask-at k l = ap (λ (x : List ℕ). getD x k 0) e ∙ getD-build 96 maskIn k l
+
+    marked-at : (q L k : ℕ) → q < 3 → L < 32 → k ≡ 32 * q + L → marked t k ≡ part q (T L) (ix L)
+    marked-at q L k hq l p = ap (λ (x : ℕ). eqb x 0xFFFFFFFF) (mask-at k (omega arith) ∙ sym (mask-in q L k l p)) ∙ marks _
+
+    pub are-masks : Masks t
+    unfolding Masks
+    are-masks k l = mask-at k l ∙ ap full (sym (ap (λ (x : ℕ). eqb x 0xFFFFFFFF) (mask-at k l) ∙ marks _))
+
+-- ---- stores under masks
+
+-- stores in one lane that come to the same
+in-same : (image : List ℕ) (n : ℕ) (a b : Stores) → after a (laneIn image n) ≡ after b (laneIn image n) → storingIn image n a ≡ storingIn image n b
+unfolding storingIn storing after pick
+in-same image n a b h =
+    same-lanes (λ L. after (pick (eqb L n) a []) (laneIn image L)) (λ L. after (pick (eqb L n) b []) (laneIn image L)) (λ L s hL hs. at L s (ℕ-discrete L n))
+  where
+    at : (L s : ℕ) → Dec (L ≡ n) → after (pick (eqb L n) a []) (laneIn image L) s ≡ after (pick (eqb L n) b []) (laneIn image L) s
+    at L s (yes q) = simp (eq-eqb L n q) (rw q (ap (λ (f : Lane). f s) h))
+    at L s (no q) = simp (ne-eqb L n q)
+
+-- a word stored again where it stands
+upd-held : (own : Lane) (s v : ℕ) → own s ≡ v → upd own s v ≡ own
+upd-held own s v e = fun-ext (λ k. at k (ℕ-discrete k s))
+  where
+    at : (k : ℕ) → Dec (k ≡ s) → upd own s v k ≡ own k
+    at k (yes q) = rw q (upd-same own s v ∙ sym e)
+    at k (no q) = upd-other own s v k q
+
+chosen-first : (p q : ℕ) (s r : Bool) (own : Lane) → (p ≡ q → ⊥)
+    → after ((p, pick s (own q) (own p)) ∷ (q, pick r (own p) (own q)) ∷ []) own ≡ after (exchanged p q s r own) own
+unfolding exchanged pick after
+chosen-first p q true true own h = refl
+chosen-first p q true false own h = upd-held (upd own p (own q)) q (own q) (upd-other own p (own q) q (λ e. h (sym e)))
+chosen-first p q false true own h = ap (λ (f : Lane). upd f q (own p)) (upd-held own p (own p) refl)
+chosen-first p q false false own h = ap (λ (f : Lane). upd f q (own q)) (upd-held own p (own p) refl) ∙ upd-held own q (own q) refl
+
+-- one lane's part of an exchange, both words chosen before the first store
+pub exchange-in : (image x y : List ℕ) (n p q a b w v f g : ℕ) (t : List ℕ) → Masks t → (p ≡ q → ⊥) → a < 96 → b < 96
+    → w ≡ laneIn image n p → v ≡ laneIn image n q
+    → ((s : Bool) → getD t a 0 ≡ full s → f ≡ pick s v w)
+    → ((s : Bool) → getD t b 0 ≡ full s → g ≡ pick s w v)
+    → ((s : Bool) → 0xFFFFFFFF ≡ full s → x ≡ storingIn image n (pick s ((p, f) ∷ []) []))
+    → ((s : Bool) → 0xFFFFFFFF ≡ full s → y ≡ storingIn x n (pick s ((q, g) ∷ []) []))
+    → y ≡ storingIn image n (exchanged p q (marked t a) (marked t b) (laneIn image n))
+unfolding Masks full pick
+exchange-in image x y n p q a b w v f g t m h ha hb ew ev ef eg ex ey =
+    in-then image x y n ((p, f) ∷ []) ((q, g) ∷ []) (ex true refl) (ey true refl)
+    ∙ rw (ef (marked t a) (m a ha), eg (marked t b) (m b hb), ew, ev) (in-same image n _ _ (chosen-first p q (marked t a) (marked t b) (laneIn image n) h))
+
+pub store-in : (image x words : List ℕ) (n p a : ℕ) (t : List ℕ) → Masks t → a < 96
+    → ((s : Bool) → getD t a 0 ≡ full s → x ≡ storingIn image n (pick s ((p, getD words n 0) ∷ []) []))
+    → x ≡ storingIn image n (storedUnder p (marked t a) (getD words n 0))
+unfolding Masks
+store-in image x words n p a t m ha f = f (marked t a) (m a ha)
+
+ends : (x : Stores) → x ++ [] ≡ x
+ends [] = refl
+ends (y ∷ x) = ap (λ (z : Stores). y ∷ z) (ends x)
+
+-- the store to r, below 8 and from 8 on
+stored-low : (r a : ℕ) (t : List ℕ) (L w : ℕ) → r < 8 → a ≡ masksAt r → storedUnder r (marked t (a + L)) w ≡ storedTo r t L w
+unfolding storedTo
+stored-low r a t L w h e =
+    ap (λ (k : ℕ). storedUnder r (marked t (k + L)) w) e ∙ sym (pick-true (ltb r 8) (storedUnder r (marked t (masksAt r + L)) w) [] (lt-ltb r 8 h))
+
+stored-none : (r : ℕ) (t : List ℕ) (L w : ℕ) → 8 ≤ r → storedTo r t L w ≡ []
+unfolding storedTo
+stored-none r t L w h = pick-false (ltb r 8) (storedUnder r (marked t (masksAt r + L)) w) [] (le-ltb r 8 h)
+
+-- the stores to vc and vd, by which of them lie below 8
+module _ (image x t : List ℕ) (vc vd : ℕ) where
+  pub both-low : (a b : ℕ) → vc < 8 → vd < 8 → a ≡ masksAt vc → b ≡ masksAt vd
+      → x ≡ storing image (λ L. exchanged vc vd (marked t (a + L)) (marked t (b + L)) (laneIn image L))
+      → x ≡ storing image (λ L. storedBoth vc vd t L (laneIn image L))
+  unfolding exchanged storedBoth
+  both-low a b hc hd ea eb p =
+      p
+      ∙ storing-same image _ _
+      (λ L l.
+      ap (λ (y : Stores). y ++ storedUnder vd (marked t (b + L)) (laneIn image L vc)) (stored-low vc a t L (laneIn image L vd) hc ea)
+      ∙ ap (λ (y : Stores). storedTo vc t L (laneIn image L vd) ++ y) (stored-low vd b t L (laneIn image L vc) hd eb)
+      ∙ rw (reg-low L (laneIn image L) vc hc, reg-low L (laneIn image L) vd hd))
+
+  pub first-low : (a : ℕ) (d : List ℕ) → vc < 8 → 8 ≤ vd → a ≡ masksAt vc → d ≡ row (λ L. reg L (laneIn image L) vd)
+      → x ≡ storing image (λ L. storedUnder vc (marked t (a + L)) (getD d L 0))
+      → x ≡ storing image (λ L. storedBoth vc vd t L (laneIn image L))
+  unfolding storedBoth
+  first-low a d hc hd ea ed p =
+      p
+      ∙ storing-same image _ _
+      (λ L l.
+      ap (λ (w : ℕ). storedUnder vc (marked t (a + L)) w) (operand d _ ed L l)
+      ∙ stored-low vc a t L (reg L (laneIn image L) vd) hc ea
+      ∙ sym (ap (λ (y : Stores). storedTo vc t L (reg L (laneIn image L) vd) ++ y) (stored-none vd t L (reg L (laneIn image L) vc) hd) ∙ ends _))
+
+  pub second-low : (b : ℕ) (c : List ℕ) → 8 ≤ vc → vd < 8 → b ≡ masksAt vd → c ≡ row (λ L. reg L (laneIn image L) vc)
+      → x ≡ storing image (λ L. storedUnder vd (marked t (b + L)) (getD c L 0))
+      → x ≡ storing image (λ L. storedBoth vc vd t L (laneIn image L))
+  unfolding storedBoth
+  second-low b c hc hd eb ec p =
+      p
+      ∙ storing-same image _ _
+      (λ L l.
+      ap (λ (w : ℕ). storedUnder vd (marked t (b + L)) w) (operand c _ ec L l)
+      ∙ stored-low vd b t L (reg L (laneIn image L) vc) hd eb
+      ∙ sym (ap (λ (y : Stores). y ++ storedTo vd t L (reg L (laneIn image L) vc)) (stored-none vc t L (reg L (laneIn image L) vd) hc)))
+
+  pub none-low : length image ≡ 768 → 8 ≤ vc → 8 ≤ vd → image ≡ storing image (λ L. storedBoth vc vd t L (laneIn image L))
+  unfolding storedBoth
+  none-low e hc hd =
+      sym
+      (storing-none image _ e
+      (λ L l.
+      ap (λ (y : Stores). y ++ storedTo vd t L (reg L (laneIn image L) vc)) (stored-none vc t L (reg L (laneIn image L) vd) hc)
+      ∙ stored-none vd t L (reg L (laneIn image L) vc) hd))
+
+-- ---- the rows of masks of an instruction
+
+module _ (image c d t : List ℕ) where
+  abbrev pub rowsBy : Bool → Bool → ℕ → List ℕ
+  rowsBy always free mask =
+      maskRows (λ L. swapsBy always free mask L (getD c L 0) (getD d L 0) (laneIn image L)) (λ L. bit (laneIn image L 12) 2)
+
+  -- under mod 0 no mask is asked
+  pub rows-always : (a f : Bool) (m : ℕ) → true ≡ a → true ≡ f → t ≡ rowsBy true true 0 → t ≡ rowsBy a f m
+  unfolding swaps
+  rows-always a f m p q e = e ∙ ap (λ (b : Bool). rowsBy true b m) q ∙ ap (λ (b : Bool). rowsBy b f m) p
+
+  pub rows-by : (a b f g : Bool) (m k : ℕ) → a ≡ b → f ≡ g → m ≡ k → t ≡ rowsBy a f m → t ≡ rowsBy b g k
+  rows-by a b f g m k p q r e =
+      e ∙ ap (λ (x : Bool). rowsBy x f m) p ∙ ap (λ (x : Bool). rowsBy b x m) q ∙ ap (λ (x : ℕ). rowsBy b g x) r
+
+-- ---- a lane that swaps
+
+-- the store to r, where the lane swaps (t) with bit 2 set or clear (ix)
+abbrev stores : Bool → Bool → ℕ → ℕ → Stores
+stores t ix r w = pick t (pick ix (below 4 r w) (below 8 r w)) []
+
+below-in : (n r w : ℕ) → r < n → below n r w ≡ (r, w) ∷ []
+unfolding below
+below-in n r w h = pick-true (ltb r n) ((r, w) ∷ []) [] (lt-ltb r n h)
+
+below-out : (n r w : ℕ) → n ≤ r → below n r w ≡ []
+unfolding below
+below-out n r w h = pick-false (ltb r n) ((r, w) ∷ []) [] (le-ltb r n h)
+
+stores-low : (t ix : Bool) (r w : ℕ) → r < 4 → storedUnder r t w ≡ stores t ix r w
+unfolding pick
+stores-low true true r w h = sym (below-in 4 r w h)
+stores-low true false r w h = sym (below-in 8 r w (omega arith))
+stores-low false ix r w h = refl
+
+stores-middle : (t ix : Bool) (r w : ℕ) → 4 ≤ r → r < 8 → storedUnder r (t && not ix) w ≡ stores t ix r w
+unfolding pick
+stores-middle true true r w h k = sym (below-out 4 r w h)
+stores-middle true false r w h k = sym (below-in 8 r w k)
+stores-middle false ix r w h k = refl
+
+stores-high : (t ix : Bool) (r w : ℕ) → 8 ≤ r → [] ≡ stores t ix r w
+unfolding pick
+stores-high true true r w h = sym (below-out 4 r w (omega arith))
+stores-high true false r w h = sym (below-out 8 r w h)
+stores-high false ix r w h = refl
+
+lane-stores : (t ix : Bool) (vc vd c d x y : ℕ)
+    → (stores t ix vc d ++ stores t ix vd c) ++ (storedUnder (indexOf vc) (t && ix) y ++ storedUnder (indexOf vd) (t && ix) x)
+    ≡ pick t (pick ix (indexSwap vc vd c d x y) (plainSwap vc vd c d)) []
+unfolding pick indexSwap plainSwap
+lane-stores true true vc vd c d x y = append-assoc (below 4 vc d) (below 4 vd c) ((indexOf vc, y) ∷ (indexOf vd, x) ∷ [])
+lane-stores true false vc vd c d x y = ends (below 8 vc d ++ below 8 vd c)
+lane-stores false ix vc vd c d x y = refl
+
+-- a store below 4 leaves the index registers
+below-keeps : (r w : ℕ) (own : Lane) (s : ℕ) → 4 ≤ s → after (below 4 r w) own s ≡ own s
+unfolding below after pick
+below-keeps r w own s h = split r 4 (λ k. simp (le-ltb r 4 k)) (λ k. simp (lt-ltb r 4 k) (upd-other own r w s (λ e. omega arith)))
+
+-- so in a lane that exchanges them they are as they were
+exchanged-kept : (vc vd c d : ℕ) (own now : Lane) (t ix : Bool)
+    → ((s : ℕ) → 4 ≤ s → s < 8 → now s ≡ after (stores t ix vc d ++ stores t ix vd c) own s)
+    → exchanged (indexOf vc) (indexOf vd) (t && ix) (t && ix) now ≡ exchanged (indexOf vc) (indexOf vd) (t && ix) (t && ix) own
+unfolding exchanged pick
+exchanged-kept vc vd c d own now true true p =
+    rw (kept (indexOf vc) (omega arith) (omega arith), kept (indexOf vd) (omega arith) (omega arith))
+  where
+    kept : (s : ℕ) → 4 ≤ s → s < 8 → now s ≡ own s
+    kept s h k =
+        p s h k ∙ ap (λ (f : Lane). f s) (sym (after-append (below 4 vc d) (below 4 vd c) own)) ∙ below-keeps vd c (after (below 4 vc d) own) s h
+        ∙ below-keeps vc d own s h
+exchanged-kept vc vd c d own now true false p = refl
+exchanged-kept vc vd c d own now false ix p = refl
+
+-- ---- all lanes
+
+module _ (image t : List ℕ) (i : Insn) (T ix : ℕ → Bool) (e : t ≡ maskRows T ix) where
+  by-masks : (r L w : ℕ) → L < 32 → storedTo r t L w ≡ stores (T L) (ix L) r w
+  unfolding storedTo masksAt part pick
+  by-masks r L w l =
+      split r 8 (λ h. stored-none r t L w h ∙ stores-high (T L) (ix L) r w h)
+      (λ h.
+      split r 4
+      (λ k.
+      sym (stored-low r 32 t L w h (sym (pick-false (ltb r 4) 0 32 (le-ltb r 4 k))))
+      ∙ ap (λ (b : Bool). storedUnder r b w) (marked-at T ix t e 1 L (32 + L) (omega arith) l (omega arith))
+      ∙ stores-middle (T L) (ix L) r w k h)
+      (λ k.
+      sym (stored-low r 0 t L w h (sym (pick-true (ltb r 4) 0 32 (lt-ltb r 4 k))))
+      ∙ ap (λ (b : Bool). storedUnder r b w) (marked-at T ix t e 0 L (0 + L) (omega arith) l (omega arith))
+      ∙ stores-low (T L) (ix L) r w k))
+
+  by-index : (L : ℕ) → L < 32 → marked t (64 + L) ≡ (T L && ix L)
+  unfolding part pick
+  by-index L l = marked-at T ix t e 2 L (64 + L) (omega arith) l (omega arith)
+
+  abbrev own : ℕ → Lane
+  own L = laneIn image L
+
+  abbrev C : ℕ → ℕ
+  C L = reg L (laneIn image L) (i .vc)
+
+  abbrev D : ℕ → ℕ
+  D L = reg L (laneIn image L) (i .vd)
+
+  abbrev exchangedIn : List ℕ → ℕ → Stores
+  exchangedIn y L = exchanged (indexOf (i .vc)) (indexOf (i .vd)) (T L && ix L) (T L && ix L) (laneIn y L)
+
+  both : (y : List ℕ) → y ≡ storing image (λ L. storedBoth (i .vc) (i .vd) t L (laneIn image L))
+      → y ≡ storing image (λ L. stores (T L) (ix L) (i .vc) (D L) ++ stores (T L) (ix L) (i .vd) (C L))
+  unfolding storedBoth
+  both y h =
+      h
+      ∙ storing-same image _ _
+      (λ L l.
+      ap (λ (z : Stores). z ++ storedTo (i .vd) t L (C L)) (by-masks (i .vc) L (D L) l)
+      ∙ ap (λ (z : Stores). stores (T L) (ix L) (i .vc) (D L) ++ z) (by-masks (i .vd) L (C L) l))
+
+  made : (y z : List ℕ)
+      → y ≡ storing image (λ L. stores (T L) (ix L) (i .vc) (D L) ++ stores (T L) (ix L) (i .vd) (C L))
+      → z ≡ storing y (exchangedIn y)
+      → z ≡ storing image (λ L. pick (T L) (pick (ix L) (indexSwap (i .vc) (i .vd) (C L) (D L) (own L (indexOf (i .vc))) (own L (indexOf (i .vd)))) (plainSwap (i .vc) (i .vd) (C L) (D L))) [])
+  unfolding exchanged
+  made y z h k =
+      k
+      ∙ storing-same y _ (exchangedIn image)
+      (λ L l.
+      exchanged-kept (i .vc) (i .vd) (C L) (D L) (laneIn image L) (laneIn y L) (T L) (ix L)
+      (λ s a b. ap (λ (w : List ℕ). laneIn w L s) h ∙ lane-storing image _ L s l (omega arith)))
+      ∙ ap (λ (w : List ℕ). storing w (exchangedIn image)) h
+      ∙ storing-then image _ _
+      ∙ storing-same image _ _
+      (λ L l. lane-stores (T L) (ix L) (i .vc) (i .vd) (C L) (D L) (own L (indexOf (i .vc))) (own L (indexOf (i .vd))))
+
+-- SWAP, from the rows of operands and masks
+module _ (image c d t : List ℕ) (i : Insn) (ec : c ≡ row (λ L. reg L (laneIn image L) (i .vc))) (ed : d ≡ row (λ L. reg L (laneIn image L) (i .vd)))
+    (e : t ≡ rowsBy image c d t (eqb (i .md) 0) (ltb (i .vd) 12) (maskOf (i .md))) where
+  T : ℕ → Bool
+  T L = swapsBy (eqb (i .md) 0) (ltb (i .vd) 12) (maskOf (i .md)) L (getD c L 0) (getD d L 0) (laneIn image L)
+
+  ix : ℕ → Bool
+  ix L = bit (laneIn image L 12) 2
+
+  pub swap-made : (y z : List ℕ)
+      → y ≡ storing image (λ L. storedBoth (i .vc) (i .vd) t L (laneIn image L))
+      → z ≡ storing y (λ L. exchanged (indexOf (i .vc)) (indexOf (i .vd)) (marked t (64 + L)) (marked t (64 + L)) (laneIn y L))
+      → z ≡ storing image (λ L. swap i L (laneIn image L))
+  unfolding T ix swap swapWith
+  swap-made y z h k =
+      made image t i T ix e y z (both image t i T ix e y h)
+      (k ∙ storing-same y _ _ (λ L l. ap (λ (b : Bool). exchanged (indexOf (i .vc)) (indexOf (i .vd)) b b (laneIn y L)) (by-index image t i T ix e L l)))
+      ∙ storing-same image _ _ (λ L l. rw (operand c _ ec L l, operand d _ ed L l))
+
+-- ---- a register stored to itself
+
+-- stores that leave each lane as it is leave the image
+unchanged : (image : List ℕ) (made : ℕ → Stores) → length image ≡ 768 → ((L : ℕ) → L < 32 → after (made L) (laneIn image L) ≡ laneIn image L) → image ≡ storing image made
+unfolding storing
+unchanged image made e h =
+    sym (same-lanes (λ L. after (made L) (laneIn image L)) (laneIn image) (λ L s hL hs. ap (λ (f : Lane). f s) (h L hL)) ∙ own-lanes image e)
+
+-- a lane after two parts of its stores that each leave it
+after-both : (a b : Stores) (own : Lane) → after a own ≡ own → after b own ≡ own → after (a ++ b) own ≡ own
+after-both a b own p q = sym (after-append a b own) ∙ ap (λ (f : Lane). after b f) p ∙ q
+
+under-own : (s : ℕ) (t : Bool) (own : Lane) → after (storedUnder s t (own s)) own ≡ own
+unfolding pick after
+under-own s true own = upd-held own s (own s) refl
+under-own s false own = refl
+
+below-own : (n r L : ℕ) (own : Lane) → n ≤ 8 → after (below n r (reg L own r)) own ≡ own
+unfolding after
+below-own n r L own h =
+    split r n (λ k. ap (λ (x : Stores). after x own) (below-out n r (reg L own r) k))
+    (λ k. ap (λ (x : Stores). after x own) (below-in n r (reg L own r) k) ∙ rw (reg-low L own r (omega arith)) (upd-held own r (own r) refl))
+
+lane-own : (t ix : Bool) (vc vd L : ℕ) (own : Lane) → vc ≡ vd
+    → after (pick t (pick ix (indexSwap vc vd (reg L own vc) (reg L own vd) (own (indexOf vc)) (own (indexOf vd))) (plainSwap vc vd (reg L own vc) (reg L own vd))) []) own ≡ own
+unfolding pick indexSwap plainSwap after
+lane-own true true vc vd L own e =
+    rw e
+    (after-both (below 4 vd (reg L own vd)) _ own (below-own 4 vd L own (omega arith))
+    (after-both (below 4 vd (reg L own vd)) _ own (below-own 4 vd L own (omega arith))
+    (after-both ((indexOf vd, own (indexOf vd)) ∷ []) ((indexOf vd, own (indexOf vd)) ∷ []) own (upd-held own (indexOf vd) (own (indexOf vd)) refl) (upd-held own (indexOf vd) (own (indexOf vd)) refl))))
+lane-own true false vc vd L own e =
+    rw e
+    (after-both (below 8 vd (reg L own vd)) (below 8 vd (reg L own vd)) own (below-own 8 vd L own (omega arith)) (below-own 8 vd L own (omega arith)))
+lane-own false ix vc vd L own e = refl
+
+pub swap-same : (image : List ℕ) (i : Insn) → length image ≡ 768 → i .vc ≡ i .vd → image ≡ storing image (λ L. swap i L (laneIn image L))
+unfolding swap swapWith
+swap-same image i e h = unchanged image _ e (λ L l. lane-own _ _ (i .vc) (i .vd) L (laneIn image L) h)
+
+pub exchange-same : (image : List ℕ) (p q : ℕ) (S : ℕ → Bool) → length image ≡ 768 → p ≡ q → image ≡ storing image (λ L. exchanged p q (S L) (S L) (laneIn image L))
+unfolding exchanged
+exchange-same image p q S e h =
+    unchanged image _ e
+    (λ L l. rw h (after-both (storedUnder q (S L) (laneIn image L q)) (storedUnder q (S L) (laneIn image L q)) (laneIn image L) (under-own q (S L) (laneIn image L)) (under-own q (S L) (laneIn image L))))

@@ -1,0 +1,39 @@
+use Prim.Native.Nat.{ℕ, _-_}
+use Rattle.lane.specs.Words.{Lane}
+use Rattle.runner.proofs.Enabled.{enabled-turn}
+use Rattle.runner.proofs.Lanes.{Turned, turn-start, turned-length, turn-more, turn-end}
+use Rattle.runner.proofs.compute.word_rows.Statement.{statement}
+use Rattle.runner.specs.ComputeRows.{wordWith}
+use borrow.Author.Needs.{needs}
+use lib.ListN.{getD}
+use mathlib.Core.Path.{sym, _∙_}
+use native.Mathlib.Omega.{arith}
+use Rattle.runner.proofs.compute.word_rows.Tie as tie
+
+abbrev Inv-loop : tie.InvT-loop
+Inv-loop image₀ op i b c go n₀ image n = Turned (λ (L : ℕ) (own : Lane). wordWith op i (getD b L 0) (getD c L 0) own) image₀ n image
+
+abbrev μ-loop : tie.MeasureT-loop
+μ-loop image₀ op i b c go n₀ image n = 32 - n
+
+loop-holds : tie.Need-loop-holds Inv-loop μ-loop
+loop-holds c = turn-start _ _ (c .before .pre .0)
+
+word-put-requires : tie.Need-word-put-requires Inv-loop μ-loop
+word-put-requires c κs = (turned-length _ _ _ _ (c .before .before .before .before .before .loop .inv), (c .before .before .before .before .loop-test .taken, (c .before .before .before .before .before .before .before .pre .1 .1, enabled-turn _ _ _ _ _ (c .before .before .before .before .before .before .before .pre .0) (c .before .before .before .before .loop-test .taken) (c .before .before .before .before .before .before .before .pre .1 .0) (c .before .before .before .before .before .loop .inv))))
+
+loop-again : tie.Need-loop-again Inv-loop μ-loop
+loop-again c = turn-more _ _ _ _ _ (c .before .before .before .before .before .before .before .before .before .before .pre .0) (c .before .before .before .before .before .before .before .loop-test .taken) (c .before .before .before .before .before .before .before .before .loop .inv) (c .before .before .word-put .ensures)
+
+same-length : tie.Need-same-length Inv-loop μ-loop
+same-length c = turned-length _ _ _ _ (c .before .loop .inv) ∙ sym (c .before .before .before .pre .0)
+
+returns : tie.Need-returns Inv-loop μ-loop
+returns c = turn-end _ _ _ _ (c .loop-test .left) (c .before .loop .inv)
+
+pub word-rows-spec : {M : Type 1} → statement M
+word-rows-spec =
+    tie.close
+    (tie.spec
+    Inv-loop μ-loop loop-holds (λ c. search needs) (λ c. search needs) (λ c. search needs) (λ c. search needs) (λ c. search needs)
+    (λ c. search needs) word-put-requires (λ c. omega arith) (λ c. omega arith) loop-again same-length returns)

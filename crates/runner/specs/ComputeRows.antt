@@ -1,0 +1,31 @@
+-- The stores of the computing operations, from the rows of their operands. Their private functions cite these; no promise rests on them.
+use Prim.Native.Nat.{ℕ}
+use mathlib.Core.Bool.{Bool, _||_}
+use lib.Dec.{eqb, ltb}
+use Rattle.lane.specs.declared.Insn.{Insn}
+use Rattle.lane.specs.Words.{pick, Lane, Stores, laneFlag}
+use Rattle.lane.specs.Compute.{iaddWord, exexpWord, valueWord, negative, flagAfter, wordOnly, wordAndFlag}
+
+-- The operations that may set LaneFlag: IADD, LZ and EXEXP.
+abbrev pub setsFlags : ℕ → Bool
+setsFlags op = eqb op 6 || (eqb op 12 || eqb op 13)
+
+-- The word that an operation computes; LZ's comes counted, in vc's place.
+unfoldable pub wordOf : ℕ → Insn → ℕ → ℕ → ℕ → ℕ
+wordOf op i b c d =
+    pick (eqb op 6) (iaddWord (i .md) (i .imm) c d) (pick (eqb op 12) c (pick (eqb op 13) (exexpWord (i .md) c) (valueWord op (i .md) b c d)))
+
+-- What LaneFlag is set to, from that word.
+unfoldable pub truthOf : ℕ → ℕ → Bool
+truthOf op w = pick (eqb op 12) (ltb w 32) (negative w)
+
+-- The stores of a lane whose vb and vc hold b and c: a word alone,
+unfoldable pub wordWith : ℕ → Insn → ℕ → ℕ → Lane → Stores
+wordWith op i b c own = wordOnly (i .vd) (wordOf op i b c (own (i .vd))) own
+
+-- and a word with a flag.
+unfoldable pub flaggedWith : ℕ → Insn → Bool → ℕ → Lane → Stores
+flaggedWith op i sets c own =
+    wordAndFlag (i .vd) (wordOf op i c c (own (i .vd)))
+    (flagAfter sets (truthOf op (wordOf op i c c (own (i .vd)))) (i .md) (own laneFlag))
+    own

@@ -1,0 +1,55 @@
+-- SWAP by rows: the rows of masks that say which lanes swap, and the stores under them. The contracts of src/swap.rt cite these.
+use Prim.Native.Nat.{ℕ, _+_, _-_, _/_, _%_, _<_}
+use mathlib.Core.Path.{_≡_}
+use mathlib.Core.Bool.{Bool, not, _&&_, _||_}
+use mathlib.Core.List.{List, [], _∷_, _++_}
+use lib.ListN.{getD}
+use lib.Dec.{eqb, ltb}
+use Rattle.lane.specs.Words.{pick, bit, Lane, Stores, build, enabled, laneConfig, reg}
+use Rattle.lane.specs.Swap.{swaps, inMask}
+use Rattle.runner.specs.Rows.{full}
+
+-- A word's place in the order of ranks, the lowest 0.
+unfoldable pub key : ℕ → ℕ
+key x = pick (ltb x 0x80000000) (x + 0x80000000) (0xFFFFFFFF - x)
+
+-- Whether a lane swaps: `always` under mod 0, `free` of bit 4 for vd below 12.
+abbrev pub swapsBy : Bool → Bool → ℕ → ℕ → ℕ → ℕ → Lane → Bool
+swapsBy always free mask L c d own =
+    ((free || bit (own laneConfig) 4) && enabled own) && swaps always (inMask mask L) (bit (own laneConfig) 8) c d
+
+-- A lane's tests in the three rows, where it swaps (t) with bit 2 set or clear (ix): it swaps; with bit 2 clear; with bit 2 set.
+unfoldable pub part : ℕ → Bool → Bool → Bool
+part q t ix = pick (eqb q 0) t (pick (eqb q 1) (t && not ix) (t && ix))
+
+-- The three rows of masks, one after the other.
+unfoldable pub maskRows : (ℕ → Bool) → (ℕ → Bool) → List ℕ
+maskRows T ix = build 96 (λ k. full (part (k / 32) (T (k % 32)) (ix (k % 32))))
+
+-- Whether the mask at k is set.
+abbrev pub marked : List ℕ → ℕ → Bool
+marked t k = eqb (getD t k 0) 0xFFFFFFFF
+
+-- Each of the 96 words is a mask.
+unfoldable pub Masks : List ℕ → Type 0
+Masks t = (k : ℕ) → k < 96 → getD t k 0 ≡ full (marked t k)
+
+-- A store under a test.
+abbrev pub storedUnder : ℕ → Bool → ℕ → Stores
+storedUnder p t w = pick t ((p, w) ∷ []) []
+
+-- The exchange of two registers in a lane, each store under its own test.
+unfoldable pub exchanged : ℕ → ℕ → Bool → Bool → Lane → Stores
+exchanged p q s t own = storedUnder p s (own q) ++ storedUnder q t (own p)
+
+-- Where the masks of a store to register r begin: the row of every lane that swaps, or of those with bit 2 clear.
+unfoldable pub masksAt : ℕ → ℕ
+masksAt r = pick (ltb r 4) 0 32
+
+-- A swap's store to register r, only below 8.
+unfoldable pub storedTo : ℕ → List ℕ → ℕ → ℕ → Stores
+storedTo r t L w = pick (ltb r 8) (storedUnder r (marked t (masksAt r + L)) w) []
+
+-- A swap's stores to vc and vd.
+unfoldable pub storedBoth : ℕ → ℕ → List ℕ → ℕ → Lane → Stores
+storedBoth vc vd t L own = storedTo vc t L (reg L own vd) ++ storedTo vd t L (reg L own vc)
