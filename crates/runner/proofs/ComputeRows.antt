@@ -5,17 +5,18 @@ use native.Mathlib.Decide.{ℕ-discrete}
 use native.Mathlib.Omega.{arith}
 use mathlib.Core.Bool.{Bool, true, false, not, _&&_, _||_, true≢false}
 use mathlib.Core.List.{List, [], _∷_}
+use lib.Bits.{bitAnd, bitOr}
 use lib.Count.{leadingZeros, leading-le}
 use lib.Dec.{eqb, ltb}
 use borrow.Author.Tests.{lt-ltb, ne-eqb}
 use Rattle.lane.specs.declared.Insn.{Insn}
 use Rattle.lane.specs.Words.{pick, has, Lane, Stores, laneFlag, enabled, reg, upd, after}
-use Rattle.lane.specs.Compute.{computes, wordOnly, wordAndFlag, flagAfter, lzOperand, lzWord, valueWord, valuedWith, valued, iaddWith, iadd, lzWith, lz, exexpWith, exexp}
+use Rattle.lane.specs.Compute.{computes, wordOnly, wordAndFlag, flagAfter, lzOperand, lzWord, other, valueWord, valuedWith, valued, iaddWith, iadd, lzWith, lz, exexpWith, exexp}
 use Rattle.lane.proofs.Cases.{pick-true, pick-false, has-one}
 use Rattle.lane.proofs.Stores.{upd-same, upd-other}
 use Rattle.runner.specs.Image.{laneIn}
 use Rattle.runner.specs.Rows.{row, enabledIn, storing}
-use Rattle.runner.specs.ComputeRows.{setsFlags, wordOf, truthOf, wordWith, flaggedWith}
+use Rattle.runner.specs.ComputeRows.{setsFlags, withVb, wordOf, truthOf, wordWith, flaggedWith}
 use Rattle.runner.proofs.Lanes.{same-lanes}
 use Rattle.runner.proofs.Enabled.{quiet-enabled}
 use Rattle.runner.proofs.Quiet.{quiet-word}
@@ -46,22 +47,32 @@ valued-one op i L own b c e u h k =
     ∙ vb-unread op i b (reg L own (i .vb)) c (own (i .vd)) own (ap (λ (t : Bool). t && has (i .md) 1) u)
     ∙ valued-lane op i L own (reg L own (i .vb)) c h refl k
 
--- vb's row, or vd's where mod is even
-pub valued-two : (op : ℕ) (i : Insn) (L : ℕ) (own : Lane) (b c r : ℕ) → setsFlags op ≡ false → i .vd < 8
-    → r ≡ pick (eqb (i .md % 2) 1) (i .vb) (i .vd) → b ≡ reg L own r → c ≡ reg L own (i .vc)
-    → wordWith op i b c own ≡ valued op i L own
-valued-two op i L own b c r e h er eb k =
-    valued-with op i b c own e ∙ by (has (i .md) 1) refl ∙ valued-lane op i L own (reg L own (i .vb)) c h refl k
+-- vb's row, or vd's where mod is even: AND and OR of it and vc's
+two-words : (op : ℕ) (m b c d v : ℕ) → (eqb op 8 || eqb op 9) ≡ true → b ≡ pick (has m 1) v d → valueWord op 1 b c d ≡ valueWord op m v c d
+unfolding valueWord other pick
+two-words op m b c d v u e = by (ℕ-discrete op 8) (ℕ-discrete op 9)
   where
-    by : (t : Bool) → has (i .md) 1 ≡ t → valuedWith op i b c (own (i .vd)) own ≡ valuedWith op i (reg L own (i .vb)) c (own (i .vd)) own
+    by : Dec (op ≡ 8) → Dec (op ≡ 9) → valueWord op 1 b c d ≡ valueWord op m v c d
+    by (yes q) r = rw q (ap (λ (x : ℕ). bitAnd x c) e)
+    by (no q) (yes r) = rw r (ap (λ (x : ℕ). bitOr x c) e)
+    by (no q) (no r) = absurd (true≢false (sym u ∙ simp (ne-eqb op 8 q, ne-eqb op 9 r)))
+
+pub valued-two : (op : ℕ) (i : Insn) (L : ℕ) (own : Lane) (b c r : ℕ) → setsFlags op ≡ false → (eqb op 8 || eqb op 9) ≡ true → i .vd < 8
+    → r ≡ pick (eqb (i .md % 2) 1) (i .vb) (i .vd) → b ≡ reg L own r → c ≡ reg L own (i .vc)
+    → wordWith op (withVb i) b c own ≡ valued op i L own
+unfolding valuedWith
+valued-two op i L own b c r e u h er eb k =
+    valued-with op (withVb i) b c own e
+    ∙ ap (λ (w : ℕ). wordOnly (i .vd) w own) (two-words op (i .md) b c (own (i .vd)) (reg L own (i .vb)) u (eb ∙ by (has (i .md) 1) refl))
+    ∙ valued-lane op i L own (reg L own (i .vb)) c h refl k
+  where
+    by : (t : Bool) → has (i .md) 1 ≡ t → reg L own r ≡ pick (has (i .md) 1) (reg L own (i .vb)) (own (i .vd))
     by true q =
-        ap (λ (x : ℕ). valuedWith op i x c (own (i .vd)) own)
-        (eb ∙ ap (λ (x : ℕ). reg L own x) (er ∙ pick-true (eqb (i .md % 2) 1) (i .vb) (i .vd) (sym (has-one (i .md)) ∙ q)))
-    by false q = vb-unread op i b (reg L own (i .vb)) c (own (i .vd)) own (ap (λ (t : Bool). (eqb op 8 || eqb op 9) && t) q ∙ none (eqb op 8 || eqb op 9))
-      where
-        none : (t : Bool) → (t && false) ≡ false
-        none true = refl
-        none false = refl
+        ap (λ (x : ℕ). reg L own x) (er ∙ pick-true (eqb (i .md % 2) 1) (i .vb) (i .vd) (sym (has-one (i .md)) ∙ q))
+        ∙ sym (pick-true (has (i .md) 1) (reg L own (i .vb)) (own (i .vd)) q)
+    by false q =
+        ap (λ (x : ℕ). reg L own x) (er ∙ pick-false (eqb (i .md % 2) 1) (i .vb) (i .vd) (sym (has-one (i .md)) ∙ q)) ∙ reg-low L own (i .vd) h
+        ∙ sym (pick-false (has (i .md) 1) (reg L own (i .vb)) (own (i .vd)) q)
 
 -- ---- a word and a flag
 

@@ -7,14 +7,13 @@ use mathlib.Core.Bool.{Bool, true, false, _&&_, _||_, false≢true}
 use mathlib.Core.List.{List, [], _∷_}
 use lib.ListN.{length, getD, set, length-set}
 use lib.Seq.{getD-set-same, getD-set-other}
-use lib.Bits.{bitAnd, bitOr}
 use lib.Dec.{ltb}
 use lib.Ieee.{Float, nan}
 use borrow.Author.Tests.{lt-ltb, ltb-true}
 use Rattle.lane.specs.declared.Insn.{Insn}
 use Rattle.lane.specs.declared.LutAnswer.{LutAnswer}
 use Rattle.lane.specs.declared.LutAnswer.the-variants.{Number, Nothing}
-use Rattle.lane.specs.Words.{pick, has, Lane, Stores, upd, after, enabled}
+use Rattle.lane.specs.Words.{pick, has, bit, Lane, Stores, upd, after, enabled}
 use Rattle.lane.specs.Swap.{acts}
 use Rattle.lane.specs.Lut.{lutAnswer, lutStores, lutRegister, lutWith, lut}
 use Rattle.lane.proofs.Cases.{pick-true, pick-false}
@@ -85,24 +84,19 @@ unfolding full pick
 set-full true = refl
 set-full false = refl
 
--- enabled, and below 12 or with the bit
-pub acting-full : (go low bit : ℕ) (s t u : Bool) → go ≡ full s → low ≡ full t → bit ≡ full u → bitAnd go (bitOr low bit) ≡ full ((t || u) && s)
-unfolding full pick
-acting-full go low bit s t u p q r = rw (p, q, r) (by s t u)
-  where
-    by : (s t u : Bool) → bitAnd (full s) (bitOr (full t) (full u)) ≡ full ((t || u) && s)
-    by true true true = refl
-    by true true false = refl
-    by true false true = refl
-    by true false false = refl
-    by false true true = refl
-    by false true false = refl
-    by false false true = refl
-    by false false false = refl
-
 pub enabled-at : (image go : List ℕ) → go ≡ enabledIn image → (L : ℕ) → L < 32 → getD go L 0 ≡ full (enabled (laneIn image L))
 unfolding enabledIn
 enabled-at image go e L l = operand go (λ L. full (enabled (laneIn image L))) e L l
+
+-- a lane's answer, from the words that it is made of and its mask of being enabled
+pub answer-by : (vd : ℕ) (own : Lane) (config r7 mask : ℕ) (x : Float) (a : LutAnswer) → config ≡ own 12 → r7 ≡ own 7 → mask ≡ full (enabled own)
+    → a ≡ lutAnswer ((ltb vd 12 || bit config 4) && isSet mask) (r7 % 16) x
+    → a ≡ lutAnswer (acts vd own) (own 7 % 16) x
+answer-by vd own config r7 mask x a ec e7 em e =
+    e ∙ ap (λ (k : ℕ). lutAnswer ((ltb vd 12 || bit k 4) && isSet mask) (r7 % 16) x) ec
+    ∙ ap (λ (k : ℕ). lutAnswer ((ltb vd 12 || bit (own 12) 4) && isSet k) (r7 % 16) x) em
+    ∙ ap (λ (t : Bool). lutAnswer ((ltb vd 12 || bit (own 12) 4) && t) (r7 % 16) x) (set-full (enabled own))
+    ∙ ap (λ (k : ℕ). lutAnswer (acts vd own) (k % 16) x) e7
 
 -- a store under a mask of ones
 pub put-all : (image x : List ℕ) (n : ℕ) (made : Stores) → x ≡ storingIn image n (pick true made []) → x ≡ storingIn image n made
@@ -133,33 +127,33 @@ direct-again m r3 vd x true own s = refl
 direct-again m r3 vd x false own s = own-again own vd s
 
 -- an answer's register is below 8
-pub slot-below : (m r3 mask r : ℕ) (x : Float) → storedSlot (answered m r3 mask r x) < 8
+pub slot-below : (m r3 : ℕ) (acting : Bool) (r : ℕ) (x : Float) → storedSlot (answered m r3 acting r x) < 8
 unfolding lutAnswer pick
-slot-below m r3 mask r x = at (isSet mask && ltb r 8) refl
+slot-below m r3 acting r x = at (acting && ltb r 8) refl
   where
     right : (s t : Bool) → (s && t) ≡ true → t ≡ true
     right true t e = e
     right false t e = absurd (false≢true e)
 
-    at : (b : Bool) → (isSet mask && ltb r 8) ≡ b → storedSlot (lutStores m r3 (pick b (Number x r) Nothing)) < 8
-    at true e = ltb-true r 8 (right (isSet mask) (ltb r 8) e)
+    at : (b : Bool) → (acting && ltb r 8) ≡ b → storedSlot (lutStores m r3 (pick b (Number x r) Nothing)) < 8
+    at true e = ltb-true r 8 (right acting (ltb r 8) e)
     at false e = omega arith
 
 -- ---- from the rows
 
-module _ (i : Insn) (own : Lane) (s r3 mask old : ℕ) (x : Float) (e3 : r3 ≡ own 3) (ex : x ≡ resultIn own) where
-  pub named-lane : (r7 : ℕ) → has (i .md) 8 ≡ true → r7 ≡ own 7 → mask ≡ full (acts (i .vd) own) → old ≡ own 0
-      → after ((storedSlot (answered (i .md) r3 mask (r7 % 16) x), storedWord (answered (i .md) r3 mask (r7 % 16) x) old) ∷ []) own s ≡ after (lut i own) own s
+module _ (i : Insn) (own : Lane) (s r3 old : ℕ) (x : Float) (e3 : r3 ≡ own 3) (ex : x ≡ resultIn own) where
+  pub named-lane : has (i .md) 8 ≡ true → old ≡ own 0
+      → after ((storedSlot (answered (i .md) r3 (acts (i .vd) own) (own 7 % 16) x), storedWord (answered (i .md) r3 (acts (i .vd) own) (own 7 % 16) x) old) ∷ []) own s ≡ after (lut i own) own s
   unfolding lut lutWith lutRegister
-  named-lane r7 h e7 em eo =
-      rw (e3, ex, e7, em, eo, set-full)
+  named-lane h eo =
+      rw (e3, ex, eo)
       (named-again (i .md) (own 3) (lutAnswer (acts (i .vd) own) (own 7 % 16) (resultIn own)) own s
       ∙ ap (λ (r : ℕ). after (lutStores (i .md) (own 3) (lutAnswer (acts (i .vd) own) r (resultIn own))) own s) (sym (pick-true (has (i .md) 8) (own 7 % 16) (i .vd) h)))
 
-  pub direct-lane : has (i .md) 8 ≡ false → i .vd < 8 → mask ≡ full (enabled own) → old ≡ own (i .vd)
-      → after ((i .vd, storedWord (answered (i .md) r3 mask (i .vd) x) old) ∷ []) own s ≡ after (lut i own) own s
+  pub direct-lane : (mask : ℕ) → has (i .md) 8 ≡ false → i .vd < 8 → mask ≡ full (enabled own) → old ≡ own (i .vd)
+      → after ((i .vd, storedWord (answered (i .md) r3 (isSet mask) (i .vd) x) old) ∷ []) own s ≡ after (lut i own) own s
   unfolding lut lutWith lutRegister lutAnswer
-  direct-lane h l em eo =
+  direct-lane mask h l em eo =
       rw (e3, ex, em, eo, set-full)
       (direct-again (i .md) (own 3) (i .vd) (resultIn own) (enabled own && ltb (i .vd) 8) own s
       ∙ ap (λ (b : Bool). after (lutStores (i .md) (own 3) (pick (((b || has (own 12) 16) && enabled own) && ltb (i .vd) 8) (Number (resultIn own) (i .vd)) Nothing)) own s) (sym (lt-ltb (i .vd) 12 (omega arith)))

@@ -227,9 +227,10 @@ unfoldable pub union : List ℕ → ℕ → ℕ → ℕ
 union image s zero = 0
 union image s (suc n) = bitOr (union image s n) (laneIn image n s)
 
-pub union-more : (image : List ℕ) (s n : ℕ) → bitOr (union image s n) (laneIn image n s) ≡ union image s (n + 1)
+pub union-more : (image : List ℕ) (s n u w : ℕ) → u ≡ union image s n → w ≡ laneIn image n s → bitOr u w ≡ union image s (n + 1)
 unfolding union
-union-more image s n = ap (λ (m : ℕ). union image s m) (sym (add-one n))
+union-more image s n u w p q =
+    ap (λ (x : ℕ). bitOr x w) p ∙ ap (λ (x : ℕ). bitOr (union image s n) x) q ∙ ap (λ (m : ℕ). union image s m) (sym (add-one n))
 
 pub union-none : (image : List ℕ) (s : ℕ) → 0 ≡ union image s 0
 unfolding union

@@ -21,9 +21,9 @@ isSet mask = not (eqb mask 0)
 abbrev pub resultIn : Lane → Float
 resultIn own = resultOf (own 0) (own 1) (own 2) (own 3)
 
--- What is stored in a lane, one store or none, by a mask for whether it acts.
-abbrev pub answered : ℕ → ℕ → ℕ → ℕ → Float → Stores
-answered m r3 mask r x = lutStores m r3 (lutAnswer (isSet mask) r x)
+-- What is stored in a lane, one store or none, by whether it acts.
+abbrev pub answered : ℕ → ℕ → Bool → ℕ → Float → Stores
+answered m r3 acting r x = lutStores m r3 (lutAnswer acting r x)
 
 -- The word that one store, or none, leaves where its slot holds `old`.
 abbrev pub storedWord : Stores → ℕ → ℕ

@@ -107,7 +107,21 @@ fn lz_words(m: u32, c: &[u32; 32]) -> [u32; 32]
     words
 }
 
-// ABS, AND, OR, XOR, NOT or EXMAN over all lanes. AND and OR read vb under mod 1.
+// An instruction with mod 1.
+fn with_vb(i: Insn) -> Insn
+    ensures { λ r. ⌜ r ≡ Compute.withVb i ⌝ }
+{
+    Insn {
+        op: i.op,
+        imm: i.imm,
+        vb: i.vb,
+        vc: i.vc,
+        vd: i.vd,
+        md: 1,
+    }
+}
+
+// ABS, AND, OR, XOR, NOT or EXMAN over all lanes. AND and OR are of vb and vc with mod 1 as with mod 0, where vd is what stands for vb.
 pub(crate) fn valued(image: &mut [u32], op: u32, i: Insn, go: &[u32; 32], fixed: &[u32; 128])
     requires { ⌜ (length (now image) ≡ 768) × ((now go ≡ Rows.enabledIn (now image)) × ((now fixed ≡ Rows.fixedRows) × (Compute.setsFlags op ≡ false))) ⌝ }
     ensures { λ _. ⌜ now (image .exit) ≡ Rows.storing (now (image .entry)) (λ L. Rules.valued op i L (laneIn (now (image .entry)) L)) ⌝ }
@@ -117,7 +131,7 @@ pub(crate) fn valued(image: &mut [u32], op: u32, i: Insn, go: &[u32; 32], fixed:
         let two = (op == 8) | (op == 9);
         if two {
             let b = source(image, fixed, keep(i.md % 2 == 1, i.vb, i.vd));
-            word_rows(image, op, i, &b, &c, go);
+            word_rows(image, op, with_vb(i), &b, &c, go);
         } else {
             word_rows(image, op, i, &c, &c, go);
         }

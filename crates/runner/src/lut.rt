@@ -83,22 +83,6 @@ fn results(image: &[u32]) -> [f32; 32]
     sums(&b, &k)
 }
 
-// The masks of the lanes that act.
-fn acting_row(image: &[u32], vd: u32, go: &[u32; 32]) -> [u32; 32]
-    requires { ⌜ (length (now image) ≡ 768) × (now go ≡ Rows.enabledIn (now image)) ⌝ }
-    ensures { λ x. ⌜ x ≡ Rows.row (λ L. Rows.full (Swap.acts vd (laneIn (now (image .entry)) L))) ⌝ }
-{
-    let low = full(vd < 12);
-    let mut act = [0u32; 32];
-    let mut n: usize = 0;
-    while n < 32 {
-        let bit = full(word_at(image, LANE_CONFIG, n) / 16 % 2 == 1);
-        act[n] = go[n] & (low | bit);
-        n += 1;
-    }
-    act
-}
-
 // The word that an answer leaves where its register holds `own`.
 fn answer_word(m: u32, r3: u32, answer: LutAnswer, own: u32) -> u32
     ensures { λ r. ⌜ r ≡ LutRows.storedWord (Rules.lutStores m r3 answer) own ⌝ }
@@ -130,7 +114,7 @@ fn answer_rows(
     act: &[u32; 32],
 )
     requires { ⌜ (length (now image) ≡ 768) × (vd < 8) ⌝ }
-    ensures { λ _. ⌜ now (image .exit) ≡ Rows.storing (now (image .entry)) (λ L. (vd, LutRows.storedWord (LutRows.answered m (getD (now (r3 .entry)) L 0) (getD (now (act .entry)) L 0) vd (getD (now (x .entry)) L nan)) (getD (now (old .entry)) L 0)) ∷ []) ⌝ }
+    ensures { λ _. ⌜ now (image .exit) ≡ Rows.storing (now (image .entry)) (λ L. (vd, LutRows.storedWord (LutRows.answered m (getD (now (r3 .entry)) L 0) (LutRows.isSet (getD (now (act .entry)) L 0)) vd (getD (now (x .entry)) L nan)) (getD (now (old .entry)) L 0)) ∷ []) ⌝ }
 {
     let mut n: usize = 0;
     while n < 32 {
@@ -141,22 +125,26 @@ fn answer_rows(
     }
 }
 
-// The words of the answers, and then their slots, where register 7 names the register.
+// The words of the answers, and then their slots, where register 7 names the register. Registers 3 and 0 are copied first, as a word of the image
+// that only one case of the answer reads would keep the loop from being vectorised.
 fn answer_words(
-    m: u32,
+    image: &[u32],
+    i: Insn,
     r3: &[u32; 32],
-    r7: &[u32; 32],
     r0: &[u32; 32],
     x: &[f32; 32],
-    act: &[u32; 32],
+    go: &[u32; 32],
 ) -> [u32; 64]
-    ensures { λ y. ⌜ LutRows.Answers (λ L. LutRows.answered m (getD (now (r3 .entry)) L 0) (getD (now (act .entry)) L 0) (getD (now (r7 .entry)) L 0 % 16) (getD (now (x .entry)) L nan)) (λ L. getD (now (r0 .entry)) L 0) 32 y ⌝ }
+    requires { ⌜ (length (now image) ≡ 768) × (now go ≡ Rows.enabledIn (now image)) ⌝ }
+    ensures { λ y. ⌜ LutRows.Answers (λ L. LutRows.answered (i .md) (getD (now (r3 .entry)) L 0) (Swap.acts (i .vd) (laneIn (now (image .entry)) L)) (laneIn (now (image .entry)) L 7 % 16) (getD (now (x .entry)) L nan)) (λ L. getD (now (r0 .entry)) L 0) 32 y ⌝ }
 {
     let mut words = [0u32; 64];
     let mut n: usize = 0;
     while n < 32 {
-        let answer = lut_answer(act[n] != 0, r7[n] % 16, x[n]);
-        words[n] = answer_word(m, r3[n], answer, r0[n]);
+        let free = (i.vd < 12) | (word_at(image, LANE_CONFIG, n) / 16 % 2 == 1);
+        let register = word_at(image, 7, n) % 16;
+        let answer = lut_answer(free & (go[n] != 0), register, x[n]);
+        words[n] = answer_word(i.md, r3[n], answer, r0[n]);
         words[32 + n] = answer_slot(answer);
         n += 1;
     }
@@ -181,11 +169,9 @@ fn lut_named(image: &mut [u32], i: Insn, go: &[u32; 32], x: &[f32; 32])
     requires { ⌜ (length (now image) ≡ 768) × ((now go ≡ Rows.enabledIn (now image)) × (LutRows.Numbers (λ L. LutRows.resultIn (laneIn (now image) L)) (now x) × (has (i .md) 8 ≡ true))) ⌝ }
     ensures { λ _. ⌜ now (image .exit) ≡ Rows.storing (now (image .entry)) (λ L. Rules.lut i (laneIn (now (image .entry)) L)) ⌝ }
 {
-    let act = acting_row(image, i.vd, go);
     let r3 = slot_row(image, 3);
-    let r7 = slot_row(image, 7);
     let r0 = slot_row(image, 0);
-    let words = answer_words(i.md, &r3, &r7, &r0, x, &act);
+    let words = answer_words(image, i, &r3, &r0, x, go);
     scatter(image, &words);
 }
 

@@ -28,7 +28,7 @@ word-at-requires-4 : tie.Need-word-at-requires-4 Inv-loop μ-loop
 word-at-requires-4 c κs = (c .before .before .before .before .before .before .pre, (omega arith, c .before .before .before .loop-test .taken))
 
 loop-again : tie.Need-loop-again Inv-loop μ-loop
-loop-again c = (omega arith, (cc (union-more _ 12 (c .before .before .before .before .before .loop .n)), (cc (union-more _ 13 (c .before .before .before .before .before .loop .n)), (cc (union-more _ 14 (c .before .before .before .before .before .loop .n)), cc (union-more _ 23 (c .before .before .before .before .before .loop .n))))))
+loop-again c = let h = c .before .before .before .before .before .loop .inv .1 in (omega arith, (union-more _ 12 _ _ _ (h .0) (c .before .before .before .word-at .ensures), (union-more _ 13 _ _ _ (h .1 .0) (c .before .before .word-at2 .ensures), (union-more _ 14 _ _ _ (h .1 .1 .0) (c .before .word-at3 .ensures), union-more _ 23 _ _ _ (h .1 .1 .1) (c .word-at4 .ensures)))))
 
 returns : tie.Need-returns Inv-loop μ-loop
 returns c = c .well-formed .ensures ∙ union-good _ _ _ _ _ _ (omega arith) (c .before .before .loop .inv .1 .0) (c .before .before .loop .inv .1 .1 .0) (c .before .before .loop .inv .1 .1 .1 .0) (c .before .before .loop .inv .1 .1 .1 .1)

@@ -8,8 +8,11 @@ use borrow.Author.Needs.{needs}
 use mathlib.Core.Path.{sym, _∙_}
 use Rattle.runner.proofs.compute.valued.Tie as tie
 
+word-rows-requires : tie.Need-word-rows-requires
+word-rows-requires c κs = (c .before .before .before .before .before .before .before .before .before .before .before .before .before .before .pre .0, (c .before .before .before .before .before .before .before .before .before .before .before .before .before .before .pre .1 .0, rw (c .before .before .with-vb .ensures) (c .before .before .before .before .before .before .before .before .before .before .before .if1 .taken)))
+
 returns : tie.Need-returns
-returns c = c .before .before .word-rows .ensures ∙ storing-same _ _ _ (λ L l. valued-two (c .before .before .before .before .before .before .before .before .before .before .before .before .before .before .before .before .args .op) (c .before .before .before .before .before .before .before .before .before .before .before .before .before .before .before .before .args .i) L (laneIn (c .before .before .before .before .before .before .before .before .before .before .before .before .before .before .before .before .args .image .now) L) _ _ _ (c .before .before .before .before .before .before .before .before .before .before .before .before .before .before .before .before .pre .1 .1 .1) (c .before .before .before .before .before .before .before .before .before .before .before .before .before .if1 .taken) (c .before .before .before .before .before .before .before .keep .ensures) (operand _ _ (c .before .before .before .before .before .before .source2 .ensures) L l) (operand _ _ (c .before .before .before .before .before .before .before .before .before .before .before .source .ensures) L l))
+returns c = (rw (c .before .before .before .before .before .with-vb .ensures) at (c .before .before .word-rows .ensures)) ∙ storing-same _ _ _ (λ L l. valued-two (c .before .before .before .before .before .before .before .before .before .before .before .before .before .before .before .before .before .args .op) (c .before .before .before .before .before .before .before .before .before .before .before .before .before .before .before .before .before .args .i) L (laneIn (c .before .before .before .before .before .before .before .before .before .before .before .before .before .before .before .before .before .args .image .now) L) _ _ _ (c .before .before .before .before .before .before .before .before .before .before .before .before .before .before .before .before .before .pre .1 .1 .1) (c .before .before .before .before .before .before .before .before .before .before .before .if2 .taken) (c .before .before .before .before .before .before .before .before .before .before .before .before .before .before .if1 .taken) (c .before .before .before .before .before .before .before .before .keep .ensures) (operand _ _ (c .before .before .before .before .before .before .before .source2 .ensures) L l) (operand _ _ (c .before .before .before .before .before .before .before .before .before .before .before .before .source .ensures) L l))
 
 returns-2 : tie.Need-returns-2
 returns-2 c = c .before .before .word-rows2 .ensures ∙ storing-same _ _ _ (λ L l. valued-one (c .before .before .before .before .before .before .before .before .before .before .before .before .args .op) (c .before .before .before .before .before .before .before .before .before .before .before .before .args .i) L (laneIn (c .before .before .before .before .before .before .before .before .before .before .before .before .args .image .now) L) _ _ (c .before .before .before .before .before .before .before .before .before .before .before .before .pre .1 .1 .1) (c .before .before .before .before .before .before .if2 .left) (c .before .before .before .before .before .before .before .before .before .if1 .taken) (operand _ _ (c .before .before .before .before .before .before .before .source .ensures) L l))
@@ -21,5 +24,5 @@ pub valued-spec : {M : Type 1} → statement M
 valued-spec =
     tie.close
     (tie.spec
-    (λ c κs. search needs) (λ c κs. search needs) (λ c κs. search needs) (λ c κs. search needs) (λ c κs. search needs) (λ c. search needs) returns
-    (λ c. search needs) returns-2 returns-3)
+    (λ c κs. search needs) (λ c κs. search needs) (λ c κs. search needs) (λ c κs. search needs) word-rows-requires (λ c κs. search needs)
+    (λ c. search needs) returns (λ c. search needs) returns-2 returns-3)

@@ -3,7 +3,7 @@ use Rattle.lane.specs.Words.{Lane}
 use Rattle.runner.proofs.Lanes.{Turned, turn-start, turned-length, turn-more, turn-end}
 use Rattle.runner.proofs.LutRows.{all-ones, put-all}
 use Rattle.runner.proofs.lut.answer_rows.Statement.{statement}
-use Rattle.runner.specs.LutRows.{answered, storedWord}
+use Rattle.runner.specs.LutRows.{isSet, answered, storedWord}
 use borrow.Author.Needs.{needs}
 use lib.Ieee.{nan}
 use lib.ListN.{getD}
@@ -13,7 +13,7 @@ use native.Mathlib.Omega.{arith}
 use Rattle.runner.proofs.lut.answer_rows.Tie as tie
 
 abbrev Inv-loop : tie.InvT-loop
-Inv-loop image₀ m vd r3 old x act n₀ image n = Turned (λ (L : ℕ) (own : Lane). (vd, storedWord (answered m (getD r3 L 0) (getD act L 0) vd (getD x L nan)) (getD old L 0)) ∷ []) image₀ n image
+Inv-loop image₀ m vd r3 old x act n₀ image n = Turned (λ (L : ℕ) (own : Lane). (vd, storedWord (answered m (getD r3 L 0) (isSet (getD act L 0)) vd (getD x L nan)) (getD old L 0)) ∷ []) image₀ n image
 
 abbrev μ-loop : tie.MeasureT-loop
 μ-loop image₀ m vd r3 old x act n₀ image n = 32 - n
