@@ -11,12 +11,12 @@ use lib.Dec.{eqb, ltb}
 use borrow.Author.Tests.{lt-ltb, ne-eqb}
 use Rattle.lane.specs.declared.Insn.{Insn}
 use Rattle.lane.specs.Words.{pick, has, Lane, Stores, laneFlag, enabled, reg, upd, after}
-use Rattle.lane.specs.Compute.{computes, wordOnly, wordAndFlag, flagAfter, lzOperand, lzWord, other, valueWord, valuedWith, valued, iaddWith, iadd, lzWith, lz, exexpWith, exexp}
+use Rattle.lane.specs.Compute.{computes, wordOnly, wordAndFlag, flagAfter, lzOperand, lzWord, other, absWord, exmanWord, valueWord, valuedWith, valued, iaddWith, iadd, lzWith, lz, exexpWith, exexp}
 use Rattle.lane.proofs.Cases.{pick-true, pick-false, has-one}
 use Rattle.lane.proofs.Stores.{upd-same, upd-other}
 use Rattle.runner.specs.Image.{laneIn}
 use Rattle.runner.specs.Rows.{row, enabledIn, storing}
-use Rattle.runner.specs.ComputeRows.{setsFlags, withVb, wordOf, truthOf, wordWith, flaggedWith}
+use Rattle.runner.specs.ComputeRows.{setsFlags, withMod, wordOf, truthOf, wordWith, flaggedWith}
 use Rattle.runner.proofs.Lanes.{same-lanes}
 use Rattle.runner.proofs.Enabled.{quiet-enabled}
 use Rattle.runner.proofs.Quiet.{quiet-word}
@@ -39,11 +39,20 @@ valued-with : (op : ℕ) (i : Insn) (b c : ℕ) (own : Lane) → setsFlags op �
 unfolding wordWith valuedWith
 valued-with op i b c own e = ap (λ (w : ℕ). wordOnly (i .vd) w own) (word-is op i b c (own (i .vd)) e)
 
--- vb's row is not read
-pub valued-one : (op : ℕ) (i : Insn) (L : ℕ) (own : Lane) (b c : ℕ) → setsFlags op ≡ false → (eqb op 8 || eqb op 9) ≡ false → i .vd < 8 → c ≡ reg L own (i .vc)
-    → wordWith op i b c own ≡ valued op i L own
-valued-one op i L own b c e u h k =
-    valued-with op i b c own e
+-- vb's row is not read, and mod is odd or even
+mod-parity : (op m n b c d : ℕ) → (eqb op 8 || eqb op 9) ≡ false → has m 1 ≡ has n 1 → valueWord op m b c d ≡ valueWord op n b c d
+unfolding valueWord absWord exmanWord pick
+mod-parity op m n b c d u e =
+    let p = neither (eqb op 8) (eqb op 9) u in
+    simp (p .0, p .1, e)
+
+pub valued-one : (op : ℕ) (i : Insn) (m L : ℕ) (own : Lane) (b c : ℕ) → setsFlags op ≡ false → (eqb op 8 || eqb op 9) ≡ false → has m 1 ≡ has (i .md) 1
+    → i .vd < 8 → c ≡ reg L own (i .vc)
+    → wordWith op (withMod i m) b c own ≡ valued op i L own
+unfolding valuedWith
+valued-one op i m L own b c e u p h k =
+    valued-with op (withMod i m) b c own e
+    ∙ ap (λ (w : ℕ). wordOnly (i .vd) w own) (mod-parity op m (i .md) b c (own (i .vd)) u p)
     ∙ vb-unread op i b (reg L own (i .vb)) c (own (i .vd)) own (ap (λ (t : Bool). t && has (i .md) 1) u)
     ∙ valued-lane op i L own (reg L own (i .vb)) c h refl k
 
@@ -59,10 +68,10 @@ two-words op m b c d v u e = by (ℕ-discrete op 8) (ℕ-discrete op 9)
 
 pub valued-two : (op : ℕ) (i : Insn) (L : ℕ) (own : Lane) (b c r : ℕ) → setsFlags op ≡ false → (eqb op 8 || eqb op 9) ≡ true → i .vd < 8
     → r ≡ pick (eqb (i .md % 2) 1) (i .vb) (i .vd) → b ≡ reg L own r → c ≡ reg L own (i .vc)
-    → wordWith op (withVb i) b c own ≡ valued op i L own
+    → wordWith op (withMod i 1) b c own ≡ valued op i L own
 unfolding valuedWith
 valued-two op i L own b c r e u h er eb k =
-    valued-with op (withVb i) b c own e
+    valued-with op (withMod i 1) b c own e
     ∙ ap (λ (w : ℕ). wordOnly (i .vd) w own) (two-words op (i .md) b c (own (i .vd)) (reg L own (i .vb)) u (eb ∙ by (has (i .md) 1) refl))
     ∙ valued-lane op i L own (reg L own (i .vb)) c h refl k
   where

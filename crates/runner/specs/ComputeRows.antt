@@ -10,9 +10,9 @@ use Rattle.lane.specs.Compute.{iaddWord, exexpWord, valueWord, negative, flagAf
 abbrev pub setsFlags : ℕ → Bool
 setsFlags op = eqb op 6 || (eqb op 12 || eqb op 13)
 
--- AND and OR with mod 1, of vb and vc.
-abbrev pub withVb : Insn → Insn
-withVb i = record { op = i .op; imm = i .imm; vb = i .vb; vc = i .vc; vd = i .vd; md = 1 }
+-- An instruction with another mod.
+abbrev pub withMod : Insn → ℕ → Insn
+withMod i m = record { op = i .op; imm = i .imm; vb = i .vb; vc = i .vc; vd = i .vd; md = m }
 
 -- The word that an operation computes; LZ's comes counted, in vc's place.
 unfoldable pub wordOf : ℕ → Insn → ℕ → ℕ → ℕ → ℕ

@@ -107,9 +107,9 @@ fn lz_words(m: u32, c: &[u32; 32]) -> [u32; 32]
     words
 }
 
-// An instruction with mod 1.
-fn with_vb(i: Insn) -> Insn
-    ensures { λ r. ⌜ r ≡ Compute.withVb i ⌝ }
+// An instruction with another mod.
+fn with_mod(i: Insn, m: u32) -> Insn
+    ensures { λ r. ⌜ r ≡ Compute.withMod i m ⌝ }
 {
     Insn {
         op: i.op,
@@ -117,11 +117,12 @@ fn with_vb(i: Insn) -> Insn
         vb: i.vb,
         vc: i.vc,
         vd: i.vd,
-        md: 1,
+        md: m,
     }
 }
 
-// ABS, AND, OR, XOR, NOT or EXMAN over all lanes. AND and OR are of vb and vc with mod 1 as with mod 0, where vd is what stands for vb.
+// ABS, AND, OR, XOR, NOT or EXMAN over all lanes. AND and OR are of vb and vc with mod 0 too, vd then standing for vb; in the others mod is odd or even.
+// So mod is a constant in every loop.
 pub(crate) fn valued(image: &mut [u32], op: u32, i: Insn, go: &[u32; 32], fixed: &[u32; 128])
     requires { ⌜ (length (now image) ≡ 768) × ((now go ≡ Rows.enabledIn (now image)) × ((now fixed ≡ Rows.fixedRows) × (Compute.setsFlags op ≡ false))) ⌝ }
     ensures { λ _. ⌜ now (image .exit) ≡ Rows.storing (now (image .entry)) (λ L. Rules.valued op i L (laneIn (now (image .entry)) L)) ⌝ }
@@ -131,9 +132,11 @@ pub(crate) fn valued(image: &mut [u32], op: u32, i: Insn, go: &[u32; 32], fixed:
         let two = (op == 8) | (op == 9);
         if two {
             let b = source(image, fixed, keep(i.md % 2 == 1, i.vb, i.vd));
-            word_rows(image, op, with_vb(i), &b, &c, go);
+            word_rows(image, op, with_mod(i, 1), &b, &c, go);
+        } else if i.md % 2 == 1 {
+            word_rows(image, op, with_mod(i, 1), &c, &c, go);
         } else {
-            word_rows(image, op, i, &c, &c, go);
+            word_rows(image, op, with_mod(i, 0), &c, &c, go);
         }
     }
 }
