@@ -22,6 +22,7 @@ use Rattle.lane.specs.Config.{combined, valueOf, laneConfigAfter, highSt
 use Rattle.lane.specs.Compute.{inverted, flagAfter, computes, wordOnly, wordAndFlag, valuedWith, valued, iaddWith, iadd, lzWith, lz, exexpWith, exexp}
 use Rattle.lane.specs.Rule.{lanewise, storesOf}
 use Rattle.lane.specs.Refusals.{wellFormed}
+use Rattle.lane.proofs.Tables.{and-left, and-right}
 use Rattle.lane.proofs.Cases.{pick-true, pick-false, pick-lt}
 use Rattle.lane.proofs.Stores.{upd-same, upd-other}
 
@@ -42,16 +43,6 @@ pub record Fit (s v : ℕ) : Type 0 where
 abbrev pub AllFit : Stores → Type 0
 AllFit [] = Unit {0}
 AllFit (s ∷ st) = Fit (s .0) (s .1) × AllFit st
-
--- ---- taking a test apart
-
-and-left : (a b : Bool) → (a && b) ≡ true → a ≡ true
-and-left true b h = refl
-and-left false b h = absurd (false≢true h)
-
-and-right : (a b : Bool) → (a && b) ≡ true → b ≡ true
-and-right true b h = h
-and-right false b h = absurd (false≢true h)
 
 -- ---- a lane takes fitting stores
 

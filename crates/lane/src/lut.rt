@@ -1,6 +1,7 @@
 // LUT: its input, the coefficients that serve it, the sum, and the word that is stored.
 use crate::Line;
 use crate::LutAnswer;
+use std::num::wrapping_sub_u32;
 ghost use mathlib.Core.Path.{_≡_};
 ghost use lib.Ieee.{binary32, ofBits, toBits};
 ghost use Rattle.lane.specs.Lut as Lut;
@@ -44,16 +45,14 @@ pub fn serving(b: f32, c0: u32, c1: u32, c2: u32) -> u32
     }
 }
 
-// The word of a coefficient's byte.
+// The word of a coefficient's byte: its sign is extended down to the exponent, whose three bits are taken from 127 by an exclusive or. 0xBC780000 is what
+// 255 comes to, and no other byte.
 pub fn byte_word(byte: u8) -> u32
     ensures { λ r. ⌜ r ≡ Lut.byteWord byte ⌝ }
 {
-    let x = byte as u32;
-    if x == 255 {
-        0
-    } else {
-        x / 128 * 0x8000_0000 + (127 - x / 16 % 8) * 0x80_0000 + x % 16 * 0x8_0000
-    }
+    let extended = wrapping_sub_u32(byte as u32 ^ 0x80, 0x80);
+    let word = ((extended << 19) & 0x83F8_0000) ^ 0x3F80_0000;
+    if word == 0xBC78_0000 { 0 } else { word }
 }
 
 // Slope and intercept, from a coefficient word.

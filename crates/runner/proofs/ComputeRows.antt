@@ -1,22 +1,23 @@
 -- The computing operations, from rows of operands to the rules of each lane. Assumes nothing.
 use mathlib.Core.Path.{_≡_, refl, sym, ap, _∙_}
-use Prim.Native.Nat.{ℕ, zero, suc, _/_, _%_, _<_}
+use Prim.Native.Nat.{ℕ, zero, suc, _+_, _-_, _*_, _/_, _%_, _^_, _<_, _≤_}
+use native.Mathlib.Nat.{mod-eq-of-lt}
 use native.Mathlib.Decide.{ℕ-discrete}
 use native.Mathlib.Omega.{arith}
 use mathlib.Core.Bool.{Bool, true, false, not, _&&_, _||_, true≢false}
 use mathlib.Core.List.{List, [], _∷_}
-use lib.Bits.{bitAnd, bitOr}
-use lib.Count.{leadingZeros, leading-le}
+use lib.Bits.{bitAnd, bitOr, or-add-and, and-le-r, or-shr, or-zero-r, and-mask}
+use lib.Count.{leadingZeros, leading-le, leading-of-zero}
 use lib.Dec.{eqb, ltb}
-use borrow.Author.Tests.{lt-ltb, ne-eqb}
+use borrow.Author.Tests.{lt-ltb, eq-eqb, ne-eqb}
 use Rattle.lane.specs.declared.Insn.{Insn}
-use Rattle.lane.specs.Words.{pick, has, Lane, Stores, laneFlag, enabled, reg, upd, after}
+use Rattle.lane.specs.Words.{pick, has, magnitude, Lane, Stores, laneFlag, enabled, reg, upd, after}
 use Rattle.lane.specs.Compute.{computes, wordOnly, wordAndFlag, flagAfter, lzOperand, lzWord, other, absWord, exmanWord, valueWord, valuedWith, valued, iaddWith, iadd, lzWith, lz, exexpWith, exexp}
 use Rattle.lane.proofs.Cases.{pick-true, pick-false, has-one}
 use Rattle.lane.proofs.Stores.{upd-same, upd-other}
 use Rattle.runner.specs.Image.{laneIn}
 use Rattle.runner.specs.Rows.{row, enabledIn, storing}
-use Rattle.runner.specs.ComputeRows.{setsFlags, withMod, wordOf, truthOf, wordWith, flaggedWith}
+use Rattle.runner.specs.ComputeRows.{setsFlags, withMod, lzLimit, lzCount, lzFrom, wordOf, truthOf, wordWith, flaggedWith}
 use Rattle.runner.proofs.Lanes.{same-lanes}
 use Rattle.runner.proofs.Enabled.{quiet-enabled}
 use Rattle.runner.proofs.Quiet.{quiet-word}
@@ -85,13 +86,14 @@ valued-two op i L own b c r e u h er eb k =
 
 -- ---- a word and a flag
 
-pub iadd-flagged : (i : Insn) (L : ℕ) (own : Lane) (c : ℕ) → i .vd < 8 → c ≡ reg L own (i .vc) → flaggedWith 6 i (not (has (i .md) 4)) c own ≡ iadd i L own
+pub iadd-flagged : (i : Insn) (L : ℕ) (own : Lane) (b c : ℕ) → i .vd < 8 → c ≡ reg L own (i .vc)
+    → flaggedWith 6 i (not (has (i .md) 4)) b c own ≡ iadd i L own
 unfolding flaggedWith wordOf truthOf pick iadd iaddWith
-iadd-flagged i L own c h e = cc (reg-low L own (i .vd) h)
+iadd-flagged i L own b c h e = cc (reg-low L own (i .vd) h)
 
-pub exexp-flagged : (i : Insn) (L : ℕ) (own : Lane) (c : ℕ) → c ≡ reg L own (i .vc) → flaggedWith 13 i (has (i .md) 2) c own ≡ exexp i L own
+pub exexp-flagged : (i : Insn) (L : ℕ) (own : Lane) (b c : ℕ) → c ≡ reg L own (i .vc) → flaggedWith 13 i (has (i .md) 2) b c own ≡ exexp i L own
 unfolding flaggedWith wordOf truthOf pick exexp exexpWith
-exexp-flagged i L own c e = cc
+exexp-flagged i L own b c e = cc
 
 -- 32 zeros are counted in no word but 0
 count-below : (x : ℕ) → ltb (leadingZeros 32 x) 32 ≡ not (eqb x 0)
@@ -100,10 +102,53 @@ count-below zero = refl
 count-below (suc n) =
     lt-ltb (leadingZeros 31 (suc n / 2)) 32 (omega (arith, leading-le 31 (suc n / 2))) ∙ sym (ap not (ne-eqb (suc n) 0 (λ e. omega arith)))
 
-pub lz-flagged : (i : Insn) (L : ℕ) (own : Lane) (c w : ℕ) → c ≡ reg L own (i .vc) → w ≡ lzWord (i .md) c → flaggedWith 12 i (has (i .md) 2) w own ≡ lz i L own
+-- the operand is vc cut by the limit
+pub limit-is : (m c : ℕ) → c < 2 ^ 32 → bitAnd c (lzLimit m) ≡ lzOperand m c
+unfolding lzLimit lzOperand
+limit-is m c h = by (ℕ-discrete (m / 4 % 2) 1)
+  where
+    by : Dec (m / 4 % 2 ≡ 1) → bitAnd c (0xFFFFFFFF - m / 4 % 2 * 0x80000000) ≡ pick (has m 4) (magnitude c) c
+    by (yes e) =
+        ap (λ (k : ℕ). bitAnd c (0xFFFFFFFF - k * 0x80000000)) e ∙ and-mask c 31 ∙ sym (pick-true (has m 4) (magnitude c) c (eq-eqb (m / 4 % 2) 1 e))
+    by (no e) =
+        let none : m / 4 % 2 ≡ 0 = omega arith in
+        ap (λ (k : ℕ). bitAnd c (0xFFFFFFFF - k * 0x80000000)) none ∙ and-mask c 32 ∙ mod-eq-of-lt h
+        ∙ sym (pick-false (has m 4) (magnitude c) c (ne-eqb (m / 4 % 2) 1 e))
+
+-- setting the lowest digit changes no count but zero's
+halved : (y : ℕ) → 0 < y → leadingZeros 32 y ≡ leadingZeros 31 (y / 2)
+unfolding leadingZeros
+halved zero l = absurd (none l)
+  where
+    none : 0 < 0 → ⊥
+    none l = omega arith
+halved (suc y) l = refl
+
+lz-whole : (x : ℕ) → (leadingZeros 32 (bitOr x 1) + pick (eqb x 0) 1 0) % 2 ^ 32 ≡ leadingZeros 32 x
+unfolding pick
+lz-whole zero =
+    ap (λ (k : ℕ). (k + 1) % 2 ^ 32) (halved 1 (omega arith) ∙ leading-of-zero 31) ∙ sym (leading-of-zero 32)
+lz-whole (suc n) =
+    let odd : 0 < bitOr (suc n) 1 = omega (arith, or-add-and (suc n) 1, and-le-r (suc n) 1) in
+    let same : leadingZeros 32 (bitOr (suc n) 1) ≡ leadingZeros 32 (suc n) =
+    halved (bitOr (suc n) 1) odd ∙ ap (λ (k : ℕ). leadingZeros 31 k) (or-shr (suc n) 1 1 ∙ or-zero-r (suc n / 2))
+    ∙ sym (halved (suc n) (omega arith)) in
+    ap (λ (k : ℕ). (k + pick (eqb (suc n) 0) 1 0) % 2 ^ 32) same
+    ∙ ap (λ (t : Bool). (leadingZeros 32 (suc n) + pick t 1 0) % 2 ^ 32) (ne-eqb (suc n) 0 (λ e. omega arith)) ∙ small (leadingZeros 32 (suc n)) (leading-le 32 (suc n))
+  where
+    small : (k : ℕ) → k ≤ 32 → (k + 0) % 2 ^ 32 ≡ k
+    small k h = omega arith
+
+pub lz-word-from : (m c : ℕ) → lzFrom m (lzCount m c) c ≡ lzWord m c
+unfolding lzFrom lzCount
+lz-word-from m c = lz-whole (lzOperand m c)
+
+pub lz-flagged : (i : Insn) (L : ℕ) (own : Lane) (c b : ℕ) → c ≡ reg L own (i .vc) → b ≡ lzCount (i .md) c
+    → flaggedWith 12 i (has (i .md) 2) b c own ≡ lz i L own
 unfolding flaggedWith wordOf truthOf pick lz lzWith
-lz-flagged i L own c w e k =
-    ap (λ (x : ℕ). wordAndFlag (i .vd) x (flagAfter (has (i .md) 2) (ltb x 32) (i .md) (own laneFlag)) own) (k ∙ ap (λ (x : ℕ). lzWord (i .md) x) e)
+lz-flagged i L own c b e k =
+    ap (λ (x : ℕ). wordAndFlag (i .vd) x (flagAfter (has (i .md) 2) (ltb x 32) (i .md) (own laneFlag)) own)
+    (ap (λ (x : ℕ). lzFrom (i .md) x c) k ∙ lz-word-from (i .md) c ∙ ap (λ (x : ℕ). lzWord (i .md) x) e)
     ∙ ap (λ (t : Bool). wordAndFlag (i .vd) (lzWord (i .md) (reg L own (i .vc))) (flagAfter (has (i .md) 2) t (i .md) (own laneFlag)) own)
     (count-below (lzOperand (i .md) (reg L own (i .vc))))
 
@@ -139,16 +184,16 @@ same-flag vd w own s = by (computes vd own) refl (ℕ-discrete s 13) (ℕ-discre
         low : computes vd own ≡ true → 13 ≡ vd → ⊥
         low q f = true≢false (sym q ∙ ap (λ (k : ℕ). ltb k 8 && enabled own) (sym f))
 
-pub untouched : (op : ℕ) (i : Insn) (sets : Bool) (c : ℕ → ℕ) (image x : List ℕ) → (sets || has (i .md) 8) ≡ false
-    → x ≡ storing image (λ L. wordWith op i (c L) (c L) (laneIn image L))
-    → x ≡ storing image (λ L. flaggedWith op i sets (c L) (laneIn image L))
+pub untouched : (op : ℕ) (i : Insn) (sets : Bool) (b c : ℕ → ℕ) (image x : List ℕ) → (sets || has (i .md) 8) ≡ false
+    → x ≡ storing image (λ L. wordWith op i (b L) (c L) (laneIn image L))
+    → x ≡ storing image (λ L. flaggedWith op i sets (b L) (c L) (laneIn image L))
 unfolding storing wordWith flaggedWith
-untouched op i sets c image x e p =
+untouched op i sets b c image x e p =
     p
     ∙ same-lanes _ _
     (λ L s hL hs.
-    same-flag (i .vd) (wordOf op i (c L) (c L) (laneIn image L (i .vd))) (laneIn image L) s
-    ∙ ap (λ (f : ℕ). after (wordAndFlag (i .vd) (wordOf op i (c L) (c L) (laneIn image L (i .vd))) f (laneIn image L)) (laneIn image L) s)
+    same-flag (i .vd) (wordOf op i (b L) (c L) (laneIn image L (i .vd))) (laneIn image L) s
+    ∙ ap (λ (f : ℕ). after (wordAndFlag (i .vd) (wordOf op i (b L) (c L) (laneIn image L (i .vd))) f (laneIn image L)) (laneIn image L) s)
     (sym (untouched-flag sets _ (i .md) (laneIn image L 13) e)))
 
 -- the row of enabled lanes stays

@@ -2,12 +2,13 @@
 -- rule. Assumes nothing.
 use mathlib.Core.Path.{_≡_, refl, sym, ap, _∙_, fun-ext}
 use Prim.Native.Nat.{ℕ, _+_, _-_, _*_, _/_, _%_, _^_, _<_, _≤_}
+use native.Mathlib.Nat.{zero-add}
 use native.Mathlib.Omega.{arith}
 use native.Mathlib.Decide.{ℕ-discrete}
 use mathlib.Core.Bool.{Bool, true, false, not, Bool·beq, _&&_, _||_}
 use mathlib.Core.List.{List, [], _∷_, _++_, append-assoc}
 use lib.ListN.{length, getD, set, length-set}
-use lib.Bits.{bitAnd, bitOr, bitXor, and-mask, xor-add-and, xor-shifted, xor-comm}
+use lib.Bits.{bitAnd, bitXor, and-mask, xor-add-and, xor-shifted, xor-block, xor-zero-r, xor-comm}
 use lib.Dec.{eqb, ltb, leb}
 use borrow.Author.Tests.{lt-ltb, le-ltb, le-leb, lt-leb, eq-eqb, ne-eqb}
 use Rattle.lane.specs.declared.Insn.{Insn}
@@ -25,25 +26,28 @@ use Rattle.runner.proofs.Operands.{reg-low}
 
 -- ---- keys
 
-without : (x y a : ℕ) → x < 2 ^ 32 → y + a * 2 ≡ x + 0xFFFFFFFF → a ≡ x % 2 ^ 32 → y ≡ 0xFFFFFFFF - x
-without x y a h e k = omega arith
+without : (x y a : ℕ) → 0x80000000 ≤ x → x < 2 ^ 32 → y + a * 2 ≡ x + 0x7FFFFFFF → a ≡ x % 2 ^ 31 → y ≡ 1 * 2 ^ 31 + (0xFFFFFFFF - x)
+without x y a l h e k = omega arith
 
 other-way : (x y : ℕ) → y ≡ 0x80000000 + x → y ≡ x + 0x80000000
 other-way x y e = omega arith
 
-pub key-is : (x m : ℕ) → x < 2 ^ 32 → m ≡ full (leb 0x80000000 x) → bitXor x (bitOr m 0x80000000) ≡ key x
+pub key-is : (x m : ℕ) → x < 2 ^ 32 → m ≡ full (leb 0x80000000 x) → bitXor (bitXor x (bitAnd m 0x7FFFFFFF)) 0x80000000 ≡ key x
 unfolding key full pick
 key-is x m h e =
-    ap (λ (k : ℕ). bitXor x (bitOr k 0x80000000)) e
+    ap (λ (k : ℕ). bitXor (bitXor x (bitAnd k 0x7FFFFFFF)) 0x80000000) e
     ∙ split x 0x80000000
     (λ k. simp (le-leb 0x80000000 x k, le-ltb x 0x80000000 k) (turned k))
     (λ k. simp (lt-leb 0x80000000 x k, lt-ltb x 0x80000000 k) (raised k))
   where
-    turned : 0x80000000 ≤ x → bitXor x 0xFFFFFFFF ≡ 0xFFFFFFFF - x
-    turned k = without x (bitXor x 0xFFFFFFFF) (bitAnd x 0xFFFFFFFF) h (xor-add-and x 0xFFFFFFFF) (and-mask x 32)
+    -- the top bit set, and the rest turned; then the top bit goes
+    turned : 0x80000000 ≤ x → bitXor (bitXor x 0x7FFFFFFF) 0x80000000 ≡ 0xFFFFFFFF - x
+    turned k =
+        ap (λ (y : ℕ). bitXor y 0x80000000) (without x (bitXor x 0x7FFFFFFF) (bitAnd x 0x7FFFFFFF) k h (xor-add-and x 0x7FFFFFFF) (and-mask x 31))
+        ∙ xor-block 31 1 1 (0xFFFFFFFF - x) 0 (omega arith) (omega arith) ∙ ap (λ (y : ℕ). 0 + y) (xor-zero-r (0xFFFFFFFF - x)) ∙ zero-add (0xFFFFFFFF - x)
 
-    raised : x < 0x80000000 → bitXor x 0x80000000 ≡ x + 0x80000000
-    raised k = xor-comm x 0x80000000 ∙ other-way x (bitXor 0x80000000 x) (xor-shifted 1 31 x k)
+    raised : x < 0x80000000 → bitXor (bitXor x 0) 0x80000000 ≡ x + 0x80000000
+    raised k = ap (λ (y : ℕ). bitXor y 0x80000000) (xor-zero-r x) ∙ xor-comm x 0x80000000 ∙ other-way x (bitXor 0x80000000 x) (xor-shifted 1 31 x k)
 
 same-order : (a b c d : ℕ) → (a < b → c < d) → (b ≤ a → d ≤ c) → ltb a b ≡ ltb c d
 same-order a b c d f g = split a b (λ h. le-ltb a b h ∙ sym (le-ltb c d (g h))) (λ h. lt-ltb a b h ∙ sym (lt-ltb c d (f h)))

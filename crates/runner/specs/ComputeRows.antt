@@ -1,10 +1,12 @@
 -- The stores of the computing operations, from the rows of their operands. Their private functions cite these; no promise rests on them.
-use Prim.Native.Nat.{ℕ}
+use Prim.Native.Nat.{ℕ, _+_, _-_, _*_, _/_, _%_, _^_}
 use mathlib.Core.Bool.{Bool, _||_}
+use lib.Bits.{bitOr}
+use lib.Count.{leadingZeros}
 use lib.Dec.{eqb, ltb}
 use Rattle.lane.specs.declared.Insn.{Insn}
 use Rattle.lane.specs.Words.{pick, Lane, Stores, laneFlag}
-use Rattle.lane.specs.Compute.{iaddWord, exexpWord, valueWord, negative, flagAfter, wordOnly, wordAndFlag}
+use Rattle.lane.specs.Compute.{lzOperand, iaddWord, exexpWord, valueWord, negative, flagAfter, wordOnly, wordAndFlag}
 
 -- The operations that may set LaneFlag: IADD, LZ and EXEXP.
 abbrev pub setsFlags : ℕ → Bool
@@ -14,10 +16,21 @@ setsFlags op = eqb op 6 || (eqb op 12 || eqb op 13)
 abbrev pub withMod : Insn → ℕ → Insn
 withMod i m = record { op = i .op; imm = i .imm; vb = i .vb; vc = i .vc; vd = i .vd; md = m }
 
--- The word that an operation computes; LZ's comes counted, in vc's place.
+-- LZ's operand is vc cut by this limit.
+unfoldable pub lzLimit : ℕ → ℕ
+lzLimit m = 0xFFFFFFFF - m / 4 % 2 * 0x80000000
+
+-- The zeros that are counted: those of the operand with its lowest digit set, one fewer than its own if it is zero, and else as many.
+unfoldable pub lzCount : ℕ → ℕ → ℕ
+lzCount m c = leadingZeros 32 (bitOr (lzOperand m c) 1)
+
+unfoldable pub lzFrom : ℕ → ℕ → ℕ → ℕ
+lzFrom m count c = (count + pick (eqb (lzOperand m c) 0) 1 0) % 2 ^ 32
+
+-- The word that an operation computes; LZ's comes counted, in vb's place.
 unfoldable pub wordOf : ℕ → Insn → ℕ → ℕ → ℕ → ℕ
 wordOf op i b c d =
-    pick (eqb op 6) (iaddWord (i .md) (i .imm) c d) (pick (eqb op 12) c (pick (eqb op 13) (exexpWord (i .md) c) (valueWord op (i .md) b c d)))
+    pick (eqb op 6) (iaddWord (i .md) (i .imm) c d) (pick (eqb op 12) (lzFrom (i .md) b c) (pick (eqb op 13) (exexpWord (i .md) c) (valueWord op (i .md) b c d)))
 
 -- What LaneFlag is set to, from that word.
 unfoldable pub truthOf : ℕ → ℕ → Bool
@@ -28,8 +41,8 @@ unfoldable pub wordWith : ℕ → Insn → ℕ → ℕ → Lane → Stores
 wordWith op i b c own = wordOnly (i .vd) (wordOf op i b c (own (i .vd))) own
 
 -- and a word with a flag.
-unfoldable pub flaggedWith : ℕ → Insn → Bool → ℕ → Lane → Stores
-flaggedWith op i sets c own =
-    wordAndFlag (i .vd) (wordOf op i c c (own (i .vd)))
-    (flagAfter sets (truthOf op (wordOf op i c c (own (i .vd)))) (i .md) (own laneFlag))
+unfoldable pub flaggedWith : ℕ → Insn → Bool → ℕ → ℕ → Lane → Stores
+flaggedWith op i sets b c own =
+    wordAndFlag (i .vd) (wordOf op i b c (own (i .vd)))
+    (flagAfter sets (truthOf op (wordOf op i b c (own (i .vd)))) (i .md) (own laneFlag))
     own

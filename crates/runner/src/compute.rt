@@ -8,12 +8,12 @@ use lane::Insn;
 use lane::compute::exexp_word;
 use lane::compute::flag_after;
 use lane::compute::iadd_word;
-use lane::compute::lz_word;
 use lane::compute::value_word;
 use lane::words::LANE_FLAG;
 use lane::words::USE_FLAG;
 use lane::words::enabled;
 use lane::words::keep;
+use std::num::wrapping_add_u32;
 ghost use mathlib.Core.Path.{_≡_};
 ghost use mathlib.Core.Bool.{false, _||_};
 ghost use Prim.Native.Nat.{ℕ, _<_};
@@ -25,13 +25,34 @@ ghost use Rattle.runner.specs.Image.{laneIn};
 ghost use Rattle.runner.specs.Rows as Rows;
 ghost use Rattle.runner.specs.ComputeRows as Compute;
 
-// The word that an operation computes. LZ's comes counted, in vc's place.
+// What vc is cut by before LZ counts: mod's 4 clears the top bit.
+fn lz_limit(m: u32) -> u32
+    ensures { λ r. ⌜ r ≡ Compute.lzLimit m ⌝ }
+{
+    0xFFFF_FFFF - m / 4 % 2 * 0x8000_0000
+}
+
+// The zeros that LZ counts, 31 for none and for one digit: of a word that is not zero a processor counts them in one instruction.
+fn lz_count(limit: u32, c: u32) -> u32
+    ensures { λ r. ⌜ ((m : ℕ) → limit ≡ Compute.lzLimit m → r ≡ Compute.lzCount m c) ⌝ }
+{
+    u32::leading_zeros((c & limit) | 1)
+}
+
+// LZ's word, from that count.
+fn lz_from(m: u32, count: u32, c: u32) -> u32
+    ensures { λ r. ⌜ r ≡ Compute.lzFrom m count c ⌝ }
+{
+    wrapping_add_u32(count, keep(c & lz_limit(m) == 0, 1, 0))
+}
+
+// The word that an operation computes. LZ's comes counted, in vb's place.
 fn word_of(op: u32, i: Insn, b: u32, c: u32, d: u32) -> u32
     ensures { λ r. ⌜ r ≡ Compute.wordOf op i b c d ⌝ }
 {
     match op {
         6 => iadd_word(i.md, i.imm, c, d),
-        12 => c,
+        12 => lz_from(i.md, b, c),
         13 => exexp_word(i.md, c),
         _ => value_word(op, i.md, b, c, d),
     }
@@ -70,12 +91,21 @@ fn truth_of(op: u32, word: u32) -> bool
 }
 
 // The word stored to vd in lane `n`, and the flag; the lane's mask afterwards.
-fn flagged_put(image: &mut [u32], n: usize, op: u32, i: Insn, sets: bool, c: u32, mask: u32) -> u32
+fn flagged_put(
+    image: &mut [u32],
+    n: usize,
+    op: u32,
+    i: Insn,
+    sets: bool,
+    b: u32,
+    c: u32,
+    mask: u32,
+) -> u32
     requires { ⌜ (length (now image) ≡ 768) × ((n < 32) × ((i .vd < 8) × (mask ≡ Rows.full (enabled (laneIn (now image) n))))) ⌝ }
-    ensures { λ r. ⌜ (now (image .exit) ≡ Rows.storingIn (now (image .entry)) n (Compute.flaggedWith op i sets c (laneIn (now (image .entry)) n))) × (r ≡ Rows.full (enabled (laneIn (now (image .exit)) n))) ⌝ }
+    ensures { λ r. ⌜ (now (image .exit) ≡ Rows.storingIn (now (image .entry)) n (Compute.flaggedWith op i sets b c (laneIn (now (image .entry)) n))) × (r ≡ Rows.full (enabled (laneIn (now (image .exit)) n))) ⌝ }
 {
     let vd = i.vd as usize;
-    let word = word_of(op, i, c, c, word_at(image, vd, n));
+    let word = word_of(op, i, b, c, word_at(image, vd, n));
     let old = word_at(image, LANE_FLAG, n);
     let flag = flag_after(sets, truth_of(op, word), i.md, old);
     put(image, vd, n, mask, word);
@@ -83,28 +113,37 @@ fn flagged_put(image: &mut [u32], n: usize, op: u32, i: Insn, sets: bool, c: u32
     full(enabled(word_at(image, USE_FLAG, n), word_at(image, LANE_FLAG, n)))
 }
 
-fn flagged_rows(image: &mut [u32], op: u32, i: Insn, sets: bool, c: &[u32; 32], go: &mut [u32; 32])
+fn flagged_rows(
+    image: &mut [u32],
+    op: u32,
+    i: Insn,
+    sets: bool,
+    b: &[u32; 32],
+    c: &[u32; 32],
+    go: &mut [u32; 32],
+)
     requires { ⌜ (length (now image) ≡ 768) × ((now go ≡ Rows.enabledIn (now image)) × (i .vd < 8)) ⌝ }
-    ensures { λ _. ⌜ (now (image .exit) ≡ Rows.storing (now (image .entry)) (λ L. Compute.flaggedWith op i sets (getD (now (c .entry)) L 0) (laneIn (now (image .entry)) L))) × (now (go .exit) ≡ Rows.enabledIn (now (image .exit))) ⌝ }
+    ensures { λ _. ⌜ (now (image .exit) ≡ Rows.storing (now (image .entry)) (λ L. Compute.flaggedWith op i sets (getD (now (b .entry)) L 0) (getD (now (c .entry)) L 0) (laneIn (now (image .entry)) L))) × (now (go .exit) ≡ Rows.enabledIn (now (image .exit))) ⌝ }
 {
     let mut n: usize = 0;
     while n < 32 {
-        go[n] = flagged_put(image, n, op, i, sets, c[n], go[n]);
+        go[n] = flagged_put(image, n, op, i, sets, b[n], c[n], go[n]);
         n += 1;
     }
 }
 
-// The words whose leading zeros are counted: in a loop of its own, since many processors count in no vector.
-fn lz_words(m: u32, c: &[u32; 32]) -> [u32; 32]
-    ensures { λ x. ⌜ x ≡ Rows.row (λ L. Rules.lzWord m (getD (now (c .entry)) L 0)) ⌝ }
+// The counts for LZ: in a loop of its own, since many processors count in no vector.
+fn lz_counts(m: u32, c: &[u32; 32]) -> [u32; 32]
+    ensures { λ x. ⌜ x ≡ Rows.row (λ L. Compute.lzCount m (getD (now (c .entry)) L 0)) ⌝ }
 {
-    let mut words = [0u32; 32];
+    let limit = lz_limit(m);
+    let mut counts = [0u32; 32];
     let mut n: usize = 0;
     while n < 32 {
-        words[n] = lz_word(m, c[n]);
+        counts[n] = lz_count(limit, c[n]);
         n += 1;
     }
-    words
+    counts
 }
 
 // An instruction with another mod.
@@ -157,7 +196,7 @@ pub(crate) fn iadd(image: &mut [u32], i: Insn, go: &mut [u32; 32], fixed: &[u32;
         let c = source(image, fixed, i.vc);
         let sets = !(i.md / 4 % 2 == 1);
         if touches(sets, i.md) {
-            flagged_rows(image, 6, i, sets, &c, go);
+            flagged_rows(image, 6, i, sets, &c, &c, go);
         } else {
             word_rows(image, 6, i, &c, &c, go);
         }
@@ -171,12 +210,12 @@ pub(crate) fn lz(image: &mut [u32], i: Insn, go: &mut [u32; 32], fixed: &[u32; 1
 {
     if i.vd < 8 {
         let c = source(image, fixed, i.vc);
-        let counts = lz_words(i.md, &c);
+        let counts = lz_counts(i.md, &c);
         let sets = i.md / 2 % 2 == 1;
         if touches(sets, i.md) {
-            flagged_rows(image, 12, i, sets, &counts, go);
+            flagged_rows(image, 12, i, sets, &counts, &c, go);
         } else {
-            word_rows(image, 12, i, &counts, &counts, go);
+            word_rows(image, 12, i, &counts, &c, go);
         }
     }
 }
@@ -190,7 +229,7 @@ pub(crate) fn exexp(image: &mut [u32], i: Insn, go: &mut [u32; 32], fixed: &[u32
         let c = source(image, fixed, i.vc);
         let sets = i.md / 2 % 2 == 1;
         if touches(sets, i.md) {
-            flagged_rows(image, 13, i, sets, &c, go);
+            flagged_rows(image, 13, i, sets, &c, &c, go);
         } else {
             word_rows(image, 13, i, &c, &c, go);
         }

@@ -20,11 +20,12 @@ ghost use Rattle.runner.specs.Image.{laneIn};
 ghost use Rattle.runner.specs.Rows as Rows;
 ghost use Rattle.runner.specs.SwapRows as Swaps;
 
-// A word's place in the order of ranks, so that one comparison of numbers decides it.
+// A word's place in the order of ranks, so that one comparison of numbers decides it. The last exclusive or is that of a signed comparison's turn, so
+// that a processor that compares signed words alone has none to add.
 fn key(x: u32) -> u32
     ensures { λ r. ⌜ r ≡ Swaps.key x ⌝ }
 {
-    x ^ (full(0x8000_0000 <= x) | 0x8000_0000)
+    (x ^ (full(0x8000_0000 <= x) & 0x7FFF_FFFF)) ^ 0x8000_0000
 }
 
 // The mask of whether a lane swaps, from its mask of being enabled: `always` under mod 0, `free` of bit 4 for vd below 12.

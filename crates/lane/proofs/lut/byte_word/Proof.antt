@@ -1,44 +1,48 @@
 use borrow.Author.Needs.{needs}
-use Rattle.lane.proofs.Cases.{cases}
-use Rattle.lane.proofs.lut.byte_word.Statement.{statement}
+use borrow.Author.Tests.{eqb-true, eq-eqb, ne-eqb}
+use Prim.Native.Nat.{ℕ, _+_, _-_, _*_, _%_, _^_, _<_}
+use mathlib.Core.Path.{_≡_, refl, sym, ap, _∙_}
+use mathlib.Core.Bool.{Bool, true}
+use native.Mathlib.Omega.{arith}
+use lib.Bits.{bitAnd, bitXor}
+use lib.Dec.{eqb}
+use Rattle.lane.specs.Words.{pick}
 use Rattle.lane.specs.Lut.{byteWord}
+use Rattle.lane.proofs.Cases.{if-eq, if-ne}
+use Rattle.lane.proofs.Tables.{allBelow, below-all}
+use Rattle.lane.proofs.lut.byte_word.Statement.{statement}
 use Rattle.lane.proofs.lut.byte_word.Tie as tie
 
-mul-result : tie.Need-mul-result
-mul-result c = search needs
+-- the byte extended by its sign, and the word made of that
+abbrev extended : ℕ → ℕ
+extended x = (bitXor x 128 + (2 ^ 32 - 128)) % 2 ^ 32
 
-sub-result : tie.Need-sub-result
-sub-result c = search needs
+abbrev wordOf : ℕ → ℕ
+wordOf r = bitXor (bitAnd (r * 2 ^ 19 % 2 ^ 32) 0x83F80000) 0x3F800000
 
-mul-result-2 : tie.Need-mul-result-2
-mul-result-2 c = search needs
+abbrev answer : ℕ → ℕ
+answer r = pick (eqb (wordOf r) 0xBC780000) 0 (wordOf r)
 
-add-result : tie.Need-add-result
-add-result c = search needs
+abbrev agrees : ℕ → Bool
+agrees x = eqb (answer (extended x)) (byteWord x)
 
-mul-result-3 : tie.Need-mul-result-3
-mul-result-3 c = search needs
+all-bytes : allBelow 256 agrees ≡ true
+unfolding pick byteWord
+all-bytes = refl
 
-add-result-2 : tie.Need-add-result-2
-add-result-2 c = search needs
+byte-is : (x r z : ℕ) → x < 256 → r < 2 ^ 32 → (r + 128) % 2 ^ 32 ≡ bitXor x 128 → z ≡ answer r → z ≡ byteWord x
+byte-is x r z h k e q =
+    let same : r ≡ extended x = omega (arith, e, k) in
+    q ∙ ap answer same ∙ eqb-true (answer (extended x)) (byteWord x) (below-all 256 agrees x all-bytes h)
+
+wrapping-sub-u32-requires : tie.Need-wrapping-sub-u32-requires
+wrapping-sub-u32-requires c κs = search needs
 
 returns : tie.Need-returns
-unfolding byteWord
-returns c = search (needs, cases) depth 12
+returns c = byte-is _ _ 0 (c .before .before .fits .byte .fits) (c .before .wrapping-sub-u32 .ok) (c .before .wrapping-sub-u32 .ensures) (if-eq _ _ _ _ _ (c .if1 .taken) refl)
 
 returns-2 : tie.Need-returns-2
-unfolding byteWord
-returns-2 c = search (needs, cases) depth 12
+returns-2 c = byte-is _ _ _ (c .before .before .fits .byte .fits) (c .before .wrapping-sub-u32 .ok) (c .before .wrapping-sub-u32 .ensures) (if-ne _ _ _ _ _ (c .if1 .left) refl)
 
 pub byte-word-spec : {M : Type 1} → statement M
-byte-word-spec =
-    tie.close
-    (tie.spec
-    mul-result
-    sub-result
-    mul-result-2
-    add-result
-    mul-result-3
-    add-result-2
-    returns
-    returns-2)
+byte-word-spec = tie.close (tie.spec wrapping-sub-u32-requires returns returns-2)

@@ -12,19 +12,19 @@ use native.Mathlib.Omega.{arith}
 use Rattle.runner.proofs.compute.flagged_rows.Tie as tie
 
 abbrev Inv-loop : tie.InvT-loop
-Inv-loop image₀ op i sets c go₀ n₀ image go n = Turned (λ (L : ℕ) (own : Lane). flaggedWith op i sets (getD c L 0) own) image₀ n image × (go ≡ enabledIn image)
+Inv-loop image₀ op i sets b c go₀ n₀ image go n = Turned (λ (L : ℕ) (own : Lane). flaggedWith op i sets (getD b L 0) (getD c L 0) own) image₀ n image × (go ≡ enabledIn image)
 
 abbrev μ-loop : tie.MeasureT-loop
-μ-loop image₀ op i sets c go₀ n₀ image go n = 32 - n
+μ-loop image₀ op i sets b c go₀ n₀ image go n = 32 - n
 
 loop-holds : tie.Need-loop-holds Inv-loop μ-loop
 loop-holds c = (turn-start _ _ (c .before .pre .0), c .before .pre .1 .0)
 
 flagged-put-requires : tie.Need-flagged-put-requires Inv-loop μ-loop
-flagged-put-requires c κs = (turned-length _ _ _ _ (c .before .before .before .before .loop .inv .0), (c .before .before .before .loop-test .taken, (c .before .before .before .before .before .before .pre .1 .1, enabled-at _ _ _ (c .before .before .before .loop-test .taken) (c .before .before .before .before .loop .inv .1))))
+flagged-put-requires c κs = (turned-length _ _ _ _ (c .before .before .before .before .before .loop .inv .0), (c .before .before .before .before .loop-test .taken, (c .before .before .before .before .before .before .before .pre .1 .1, enabled-at _ _ _ (c .before .before .before .before .loop-test .taken) (c .before .before .before .before .before .loop .inv .1))))
 
 loop-again : tie.Need-loop-again Inv-loop μ-loop
-loop-again c = (turn-more _ _ _ _ _ (c .before .before .before .before .before .before .before .before .before .pre .0) (c .before .before .before .before .before .before .loop-test .taken) (c .before .before .before .before .before .before .before .loop .inv .0) (c .before .before .flagged-put .ensures .0), enabled-more _ _ _ _ _ _ (c .before .before .before .before .before .before .loop-test .taken) (c .before .before .before .before .before .before .before .loop .inv .1) (c .before .before .flagged-put .ensures .0) (c .before .before .flagged-put .ensures .1))
+loop-again c = (turn-more _ _ _ _ _ (c .before .before .before .before .before .before .before .before .before .before .pre .0) (c .before .before .before .before .before .before .before .loop-test .taken) (c .before .before .before .before .before .before .before .before .loop .inv .0) (c .before .before .flagged-put .ensures .0), enabled-more _ _ _ _ _ _ (c .before .before .before .before .before .before .before .loop-test .taken) (c .before .before .before .before .before .before .before .before .loop .inv .1) (c .before .before .flagged-put .ensures .0) (c .before .before .flagged-put .ensures .1))
 
 same-length : tie.Need-same-length Inv-loop μ-loop
 same-length c = turned-length _ _ _ _ (c .before .loop .inv .0) ∙ sym (c .before .before .before .pre .0)
@@ -36,5 +36,6 @@ pub flagged-rows-spec : {M : Type 1} → statement M
 flagged-rows-spec =
     tie.close
     (tie.spec
-    Inv-loop μ-loop loop-holds (λ c. search needs) (λ c. search needs) (λ c. search needs) (λ c. search needs) flagged-put-requires
+    Inv-loop μ-loop loop-holds (λ c. search needs) (λ c. search needs) (λ c. search needs) (λ c. search needs) (λ c. search needs)
+    (λ c. search needs) flagged-put-requires
     (λ c. search needs) (λ c. search needs) (λ c. omega arith) (λ c. omega arith) loop-again same-length returns)

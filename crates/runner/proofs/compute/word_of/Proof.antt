@@ -11,7 +11,7 @@ returns c = simp (c .before .match .keys1, c .iadd-word .ensures)
 
 returns-2 : tie.Need-returns-2
 unfolding wordOf pick
-returns-2 c = simp (c .match .keys2)
+returns-2 c = simp (c .before .match .keys2, c .lz-from .ensures)
 
 returns-3 : tie.Need-returns-3
 unfolding wordOf pick
@@ -23,4 +23,4 @@ returns-4 c = simp (ne-eqb _ _ (c .before .match .rest .0 .0 .1), ne-eqb _ _ (c 
 
 pub word-of-spec : {M : Type 1} → statement M
 word-of-spec =
-    tie.close (tie.spec (λ c κs. search needs) (λ c κs. search needs) (λ c κs. search needs) returns returns-2 returns-3 returns-4)
+    tie.close (tie.spec (λ c κs. search needs) (λ c κs. search needs) (λ c κs. search needs) (λ c κs. search needs) returns returns-2 returns-3 returns-4)
