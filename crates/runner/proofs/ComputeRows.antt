@@ -16,7 +16,7 @@ use Rattle.lane.specs.Compute.{computes, wordOnly, wordAndFlag, flagAfter, lzOp
 use Rattle.lane.proofs.Cases.{pick-true, pick-false, has-one}
 use Rattle.lane.proofs.Stores.{upd-same, upd-other}
 use Rattle.runner.specs.Image.{laneIn}
-use Rattle.runner.specs.Rows.{row, enabledIn, storing}
+use Rattle.runner.specs.Rows.{row, Enabled, storing}
 use Rattle.runner.specs.ComputeRows.{setsFlags, withMod, lzLimit, lzCount, lzFrom, wordOf, truthOf, wordWith, flaggedWith}
 use Rattle.runner.proofs.Lanes.{same-lanes}
 use Rattle.runner.proofs.Enabled.{quiet-enabled}
@@ -197,9 +197,9 @@ untouched op i sets b c image x e p =
     (sym (untouched-flag sets _ (i .md) (laneIn image L 13) e)))
 
 -- the row of enabled lanes stays
-pub words-enabled : (op : ℕ) (i : Insn) (b c : ℕ → ℕ) (image x go : List ℕ) → go ≡ enabledIn image
+pub words-enabled : (op : ℕ) (i : Insn) (b c : ℕ → ℕ) (image x go : List ℕ) → Enabled go image
     → x ≡ storing image (λ L. wordWith op i (b L) (c L) (laneIn image L))
-    → go ≡ enabledIn x
+    → Enabled go x
 unfolding wordWith
 words-enabled op i b c image x go g p =
-    g ∙ quiet-enabled image _ (λ L l. quiet-word (i .vd) _ (laneIn image L)) ∙ ap enabledIn (sym p)
+    quiet-enabled go image x _ (λ L l. quiet-word (i .vd) _ (laneIn image L)) g p

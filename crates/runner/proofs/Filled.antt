@@ -76,6 +76,15 @@ spread-end g m len n words all h =
     at : (k : ℕ) → k < len → getD words k 0 ≡ getD (build len g) k 0
     at k l = h .made k l (all k l) ∙ sym (getD-build len g k l)
 
+-- one word more, of 128
+pub one-more : (g : ℕ → ℕ) (n : ℕ) (words : List ℕ) (v : ℕ) → n < 128 → Spread g 128 128 n words → v ≡ g n → Spread g 128 128 (n + 1) (set words n v)
+one-more g n words v l h e =
+    record {
+      within = omega arith;
+      long = length-set words n v ∙ h .long;
+      made = λ p k r. put-holds g words n v p (omega (arith, h .long)) e (λ q. h .made p k (omega arith));
+    }
+
 -- four rows of 32
 pub rows-more : (g : ℕ → ℕ) (n : ℕ) (words : List ℕ) (a b c d : ℕ) → n < 32 → Spread g 32 128 n words
     → a ≡ g n → b ≡ g (32 + n) → c ≡ g (64 + n) → d ≡ g (96 + n)

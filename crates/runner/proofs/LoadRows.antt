@@ -15,7 +15,7 @@ use Rattle.lane.proofs.Cases.{pick-false, pick-lt, has-one}
 use Rattle.lane.proofs.Stores.{getD-build, upd-other}
 use Rattle.runner.specs.Image.{laneIn}
 use Rattle.runner.specs.Run.{evenCell, oddCell}
-use Rattle.runner.specs.Rows.{storing, storingIn, row, full, enabledIn}
+use Rattle.runner.specs.Rows.{storing, storingIn, row, full, Enabled}
 use Rattle.runner.specs.LoadRows.{oddAt, oddIn, isOpen, openIn, cellOf, loadedAt, loadedOnly, capturedOnly}
 use Rattle.runner.proofs.Lanes.{storing-same, storing-then, lane-storing, Turned, turn-lane, turn-more}
 use Rattle.runner.proofs.Filled.{Spread, put-holds, columns-more, operand, row-same}
@@ -52,11 +52,10 @@ odd-column image odds a x y config j l ex ey ec h =
     mask : (p : ℕ) → p % 8 ≡ j → bitOr x y ≡ full (oddAt image a p)
     mask p ep = rw (ex, ey, ec, ep) (full-or (bit a 1) (bit (laneIn image j laneConfig) 5))
 
-pub open-mask : (image go : List ℕ) (n y config : ℕ) → go ≡ enabledIn image → n < 32 → y ≡ full (not (bit config 1)) → config ≡ laneIn image n laneConfig
+pub open-mask : (image go : List ℕ) (n y config : ℕ) → Enabled go image → n < 32 → y ≡ full (not (bit config 1)) → config ≡ laneIn image n laneConfig
     → bitAnd (getD go n 0) y ≡ full (isOpen (laneIn image n))
-unfolding enabledIn
 open-mask image go n y config eg l ey ec =
-    rw (operand go _ eg n l, ey, ec) (full-and (enabled (laneIn image n)) (not (bit (laneIn image n laneConfig) 1)))
+    rw (eg .mask-is n l, ey, ec) (full-and (enabled (laneIn image n)) (not (bit (laneIn image n laneConfig) 1)))
 
 pub capture-mask : (image opens : List ℕ) (n vd y config : ℕ) (t : Bool) → opens ≡ openIn image → n < 32 → y ≡ full t → t ≡ captures vd config
     → config ≡ laneIn image n laneConfig

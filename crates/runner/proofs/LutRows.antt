@@ -19,7 +19,7 @@ use Rattle.lane.specs.Lut.{lutAnswer, lutStores, lutRegister, lutWith, lut}
 use Rattle.lane.proofs.Cases.{pick-true, pick-false}
 use Rattle.lane.proofs.Stores.{upd-same, upd-other}
 use Rattle.runner.specs.Image.{laneIn}
-use Rattle.runner.specs.Rows.{storing, storingIn, full, enabledIn}
+use Rattle.runner.specs.Rows.{storing, storingIn, full}
 use Rattle.runner.specs.LutRows.{isSet, resultIn, answered, storedWord, storedSlot, Answers}
 use Rattle.runner.proofs.Lanes.{same-lanes}
 use Rattle.runner.proofs.Filled.{none-below, operand}
@@ -83,10 +83,6 @@ pub set-full : (t : Bool) → isSet (full t) ≡ t
 unfolding full pick
 set-full true = refl
 set-full false = refl
-
-pub enabled-at : (image go : List ℕ) → go ≡ enabledIn image → (L : ℕ) → L < 32 → getD go L 0 ≡ full (enabled (laneIn image L))
-unfolding enabledIn
-enabled-at image go e L l = operand go (λ L. full (enabled (laneIn image L))) e L l
 
 -- a lane's answer, from the words that it is made of and its mask of being enabled
 pub answer-by : (vd : ℕ) (own : Lane) (config r7 mask : ℕ) (x : Float) (a : LutAnswer) → config ≡ own 12 → r7 ≡ own 7 → mask ≡ full (enabled own)

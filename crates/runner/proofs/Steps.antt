@@ -21,7 +21,7 @@ use Rattle.runner.specs.declared.Outcome.{Outcome}
 use Rattle.runner.specs.Image.{laneIn, imageGood}
 use Rattle.runner.specs.Checks.{insnAt, countOf, found, scanned, lengthsFirst, runListAnswer, runAnswer}
 use Rattle.runner.specs.Run.{Machine, evenCell, oddCell, laneAfter, imageAt, imageAfter, stepImage, cursorAfter, stepped, steps, finish, outcomeOf, runImage}
-use Rattle.runner.specs.Rows.{storing, enabledIn}
+use Rattle.runner.specs.Rows.{storing, Enabled}
 use Rattle.runner.specs.StepRows.{Stored, Left, from}
 use Rattle.runner.proofs.Enabled.{Quiet, quiet-enabled}
 use Rattle.runner.proofs.Quiet.{quiet-load}
@@ -43,7 +43,7 @@ unfolding storesOf lanewise pick
 load-stores op s a i L head even odd own e = simp e
 
 -- an operation's image is the instruction's if its stores are, and the row of enabled lanes goes with it
-pub stored-arm : (s : Settings) (i : Insn) (image x go : List ℕ) (made : ℕ → Stores) → go ≡ enabledIn x → x ≡ storing image made
+pub stored-arm : (s : Settings) (i : Insn) (image x go : List ℕ) (made : ℕ → Stores) → Enabled go x → x ≡ storing image made
     → ((a : ℕ) (dst : List ℕ) (L : ℕ) → made L ≡ storesAt s i a image dst L)
     → Stored s i image x go
 stored-arm s i image x go made g p h =
@@ -53,15 +53,15 @@ stored-arm s i image x go made g p h =
     }
 
 -- an operation that leaves the flags
-pub quiet-arm : (s : Settings) (i : Insn) (image x go : List ℕ) (made : ℕ → Stores) → go ≡ enabledIn image → x ≡ storing image made
+pub quiet-arm : (s : Settings) (i : Insn) (image x go : List ℕ) (made : ℕ → Stores) → Enabled go image → x ≡ storing image made
     → ((L : ℕ) → Quiet (made L))
     → ((a : ℕ) (dst : List ℕ) (L : ℕ) → made L ≡ storesAt s i a image dst L)
     → Stored s i image x go
 quiet-arm s i image x go made g p q h =
-    stored-arm s i image x go made (g ∙ quiet-enabled image made (λ L l. q L) ∙ ap enabledIn (sym p)) p h
+    stored-arm s i image x go made (quiet-enabled go image x made (λ L l. q L) g p) p h
 
 -- one that stores nothing
-pub no-arm : (s : Settings) (i : Insn) (image go : List ℕ) → length image ≡ 768 → go ≡ enabledIn image
+pub no-arm : (s : Settings) (i : Insn) (image go : List ℕ) → length image ≡ 768 → Enabled go image
     → ((a : ℕ) (dst : List ℕ) (L : ℕ) → [] ≡ storesAt s i a image dst L)
     → Stored s i image image go
 no-arm s i image go e g h = stored-arm s i image image go (λ L. []) g (sym (storing-none image (λ L. []) e (λ L l. refl))) h
@@ -84,7 +84,7 @@ stored-left s i cursor image dst x go n h =
     }
 
 pub load-left : (s : Settings) (i : Insn) (cursor a next : ℕ) (image dst x go : List ℕ) → i .op ≡ 1 → a ≡ address (i .imm) (s .offset) cursor
-    → next ≡ nextCursor 1 cursor (stride s (i .vb)) → go ≡ enabledIn image
+    → next ≡ nextCursor 1 cursor (stride s (i .vb)) → Enabled go image
     → x ≡ storing image (λ L. load (s .srcb) a i L (bit (laneIn image (L % 8) 12) 5) (evenCell dst a L) (oddCell dst a L) (laneIn image L))
     → Left s i cursor image dst next x go
 unfolding imageAfter nextCursor
@@ -94,7 +94,7 @@ load-left s i cursor a next image dst x go o ea en g p =
       image-is =
           p ∙ storing-same image _ (storesAt s i a image dst) (λ L l. is-load L) ∙ image-at-is s i a image dst
           ∙ ap (λ (x : ℕ). imageAt s i x image dst) ea;
-      enabled-is = g ∙ quiet-enabled image _ (λ L l. quiet-load (s .srcb) a i L _ _ _ (laneIn image L)) ∙ ap enabledIn (sym p);
+      enabled-is = quiet-enabled go image x _ (λ L l. quiet-load (s .srcb) a i L _ _ _ (laneIn image L)) g p;
     }
   where
     is-load : (L : ℕ)
@@ -144,10 +144,10 @@ steps-dst s list (suc n) m = steps-dst s list n m
 pub record Reached (s : Settings) (list dst start : List ℕ) (first k cursor : ℕ) (image go : List ℕ) : Type 0 where
   pub cursor-is : cursor ≡ steps s list k (starting first start dst) .cursor
   pub image-is : image ≡ steps s list k (starting first start dst) .image
-  pub enabled-is : go ≡ enabledIn image
+  pub enabled-is : Enabled go image
   pub long : length image ≡ 768
 
-pub reached-start : (s : Settings) (list dst start : List ℕ) (first : ℕ) (go : List ℕ) → length start ≡ 768 → go ≡ enabledIn start
+pub reached-start : (s : Settings) (list dst start : List ℕ) (first : ℕ) (go : List ℕ) → length start ≡ 768 → Enabled go start
     → Reached s list dst start first 0 first start go
 unfolding steps
 reached-start s list dst start first go e g = record { cursor-is = refl; image-is = refl; enabled-is = g; long = e }

@@ -8,6 +8,7 @@ use native.Mathlib.Decide.{ℕ-discrete}
 use mathlib.Core.Bool.{Bool, true, false, not, Bool·beq, _&&_, _||_}
 use mathlib.Core.List.{List, [], _∷_, _++_, append-assoc}
 use lib.ListN.{length, getD, set, length-set}
+use lib.Seq.{getD-set-other}
 use lib.Bits.{bitAnd, bitXor, and-mask, xor-add-and, xor-shifted, xor-block, xor-zero-r, xor-comm}
 use lib.Dec.{eqb, ltb, leb}
 use borrow.Author.Tests.{lt-ltb, le-ltb, le-leb, lt-leb, eq-eqb, ne-eqb}
@@ -16,12 +17,14 @@ use Rattle.lane.specs.Words.{pick, bit, Lane, Stores, reg, upd, after, enabled}
 use Rattle.lane.specs.Swap.{rank, ranksBelow, below, plainSwap, indexSwap, indexOf, swapWith, swap, maskOf, swaps}
 use Rattle.lane.proofs.Cases.{pick-true, pick-false}
 use Rattle.lane.proofs.Ranks.{swaps-is}
-use Rattle.lane.proofs.Stores.{getD-build, upd-same, upd-other, after-append}
+use Rattle.lane.proofs.Stores.{length-build, getD-build, upd-same, upd-other, after-append}
 use Rattle.runner.specs.Image.{laneIn}
-use Rattle.runner.specs.Rows.{storing, storingIn, row, full}
+use Rattle.runner.specs.Rows.{storing, storingIn, row, full, Enabled}
 use Rattle.runner.specs.SwapRows.{key, swapsBy, part, maskRows, marked, Masks, storedUnder, exchanged, masksAt, storedTo, storedBoth}
 use Rattle.runner.proofs.Lanes.{split, same-lanes, own-lanes, storing-same, storing-then, lane-storing, storing-none, in-then}
-use Rattle.runner.proofs.Filled.{Spread, put-holds, operand}
+use Rattle.runner.proofs.Filled.{Spread, spread-start, put-holds, operand}
+use Rattle.runner.proofs.Enabled.{quiet-enabled}
+use Rattle.runner.proofs.Quiet.{quiet-swap}
 use Rattle.runner.proofs.Operands.{reg-low}
 
 -- ---- keys
@@ -112,54 +115,86 @@ mask-made go m kc kd c d always acting minimum reversed e fc fd p q r g =
     turn false true s = refl
     turn false false s = refl
 
--- three rows of 32
-three-more : (g : ℕ → ℕ) (n : ℕ) (words : List ℕ) (a b c : ℕ) → n < 32 → Spread g 32 96 n words
-    → a ≡ g n → b ≡ g (32 + n) → c ≡ g (64 + n)
-    → Spread g 32 96 (n + 1) (set (set (set words n a) (32 + n) b) (64 + n) c)
-three-more g n words a b c l h ea eb ec =
-    record { within = omega arith; long = simp length-set (h .long); made = at }
-  where
-    at : (p : ℕ) → p < 96 → p % 32 < n + 1 → getD (set (set (set words n a) (32 + n) b) (64 + n) c) p 0 ≡ g p
-    at p k r =
-        put-holds g (set (set words n a) (32 + n) b) (64 + n) c p (simp length-set (omega (arith, h .long))) ec
-        (λ nc.
-        put-holds g (set words n a) (32 + n) b p (simp length-set (omega (arith, h .long))) eb
-        (λ nb. put-holds g words n a p (omega (arith, h .long)) ea (λ na. h .made p k (omega arith))))
+-- three rows of 32, after a first row that stands
+module _ (g : ℕ → ℕ) (n : ℕ) (words : List ℕ) (a b c : ℕ) (l : n < 32) (h : Spread g 32 128 n words) (first : (k : ℕ) → k < 32 → getD words k 0 ≡ g k) where
+  three-more : a ≡ g (32 + n) → b ≡ g (64 + n) → c ≡ g (96 + n) → Spread g 32 128 (n + 1) (set (set (set words (32 + n) a) (64 + n) b) (96 + n) c)
+  three-more ea eb ec = record { within = omega arith; long = simp length-set (h .long); made = at }
+    where
+      stood : (p : ℕ) → p < 128 → p % 32 < n + 1 → (p ≡ 32 + n → ⊥) → (p ≡ 64 + n → ⊥) → (p ≡ 96 + n → ⊥) → getD words p 0 ≡ g p
+      stood p k r na nb nc = split p 32 (λ m. h .made p k (omega arith)) (λ m. first p m)
 
-module _ (T ix : ℕ → Bool) where
+      at : (p : ℕ) → p < 128 → p % 32 < n + 1 → getD (set (set (set words (32 + n) a) (64 + n) b) (96 + n) c) p 0 ≡ g p
+      at p k r =
+          put-holds g (set (set words (32 + n) a) (64 + n) b) (96 + n) c p (simp length-set (omega (arith, h .long))) ec
+          (λ nc.
+          put-holds g (set words (32 + n) a) (64 + n) b p (simp length-set (omega (arith, h .long))) eb
+          (λ nb. put-holds g words (32 + n) a p (omega (arith, h .long)) ea (λ na. stood p k r na nb nc)))
+
+  first-stays : (k : ℕ) → k < 32 → getD (set (set (set words (32 + n) a) (64 + n) b) (96 + n) c) k 0 ≡ g k
+  first-stays k m =
+      getD-set-other (set (set words (32 + n) a) (64 + n) b) (96 + n) k c 0 (λ e. omega arith)
+      ∙ getD-set-other (set words (32 + n) a) (64 + n) k b 0 (λ e. omega arith) ∙ getD-set-other words (32 + n) k a 0 (λ e. omega arith) ∙ first k m
+
+module _ (E T ix : ℕ → Bool) where
   -- the word of the rows at k
   abbrev pub maskIn : ℕ → ℕ
-  maskIn k = full (part (k / 32) (T (k % 32)) (ix (k % 32)))
+  maskIn k = full (part (k / 32) (E (k % 32)) (T (k % 32)) (ix (k % 32)))
 
-  mask-in : (q L k : ℕ) → L < 32 → k ≡ 32 * q + L → full (part q (T L) (ix L)) ≡ maskIn k
+  mask-in : (q L k : ℕ) → L < 32 → k ≡ 32 * q + L → full (part q (E L) (T L) (ix L)) ≡ maskIn k
   mask-in q L k l e = go (k / 32) (k % 32) (omega arith) (omega arith)
     where
-      go : (a b : ℕ) → q ≡ a → L ≡ b → full (part q (T L) (ix L)) ≡ full (part a (T b) (ix b))
+      go : (a b : ℕ) → q ≡ a → L ≡ b → full (part q (E L) (T L) (ix L)) ≡ full (part a (E b) (T b) (ix b))
       go a b p r = cc
 
+  -- what holds after n turns
+  pub record Marked (n : ℕ) (words : List ℕ) : Type 0 where
+    pub spread : Spread maskIn 32 128 n words
+    pub first : (k : ℕ) → k < 32 → getD words k 0 ≡ maskIn k
+
+  pub marked-start : (words : List ℕ) → length words ≡ 128 → ((k : ℕ) → k < 32 → getD words k 0 ≡ full (E k)) → Marked 0 words
+  unfolding part pick
+  marked-start words e h = record { spread = spread-start maskIn 32 128 words e; first = λ k l. h k l ∙ mask-in 0 k k l (omega arith) }
+
+  pub marked-first : (n : ℕ) (words : List ℕ) → Marked n words → (k : ℕ) → k < 32 → getD words k 0 ≡ full (E k)
+  unfolding part pick
+  marked-first n words h k l = h .first k l ∙ sym (mask-in 0 k k l (omega arith))
+
   -- a turn's three words
-  pub masks-more : (n : ℕ) (words : List ℕ) (w m : ℕ) → n < 32 → Spread maskIn 32 96 n words → w ≡ full (T n) → m ≡ full (ix n)
-      → Spread maskIn 32 96 (n + 1) (set (set (set words n w) (32 + n) (bitXor w (bitAnd w m))) (64 + n) (bitAnd w m))
+  pub masks-more : (n : ℕ) (words : List ℕ) (w m : ℕ) → n < 32 → Marked n words → w ≡ full (T n) → m ≡ full (ix n)
+      → Marked (n + 1) (set (set (set words (32 + n) w) (64 + n) (bitXor w (bitAnd w m))) (96 + n) (bitAnd w m))
   unfolding part pick
   masks-more n words w m l h e k =
-      three-more maskIn n words w (bitXor w (bitAnd w m)) (bitAnd w m) l h (e ∙ mask-in 0 n n l (omega arith))
-      (rw (indexed, e) (rest-full (T n) (ix n)) ∙ mask-in 1 n (32 + n) l (omega arith))
-      (indexed ∙ mask-in 2 n (64 + n) l (omega arith))
+      record {
+        spread =
+            three-more maskIn n words w (bitXor w (bitAnd w m)) (bitAnd w m) l (h .spread) (h .first) (e ∙ mask-in 1 n (32 + n) l (omega arith))
+            (rw (indexed, e) (rest-full (T n) (ix n)) ∙ mask-in 2 n (64 + n) l (omega arith))
+            (indexed ∙ mask-in 3 n (96 + n) l (omega arith));
+        first = first-stays maskIn n words w (bitXor w (bitAnd w m)) (bitAnd w m) l (h .spread) (h .first);
+      }
     where
       indexed : bitAnd w m ≡ full (T n && ix n)
       indexed = rw (e, k) (both-full (T n) (ix n))
 
-  module _ (t : List ℕ) (e : t ≡ maskRows T ix) where
-    mask-at : (k : ℕ) → k < 96 → getD t k 0 ≡ maskIn k
+  module _ (t : List ℕ) (e : t ≡ maskRows E T ix) where
+    mask-at : (k : ℕ) → k < 128 → getD t k 0 ≡ maskIn k
     unfolding maskRows
-    mask-at k l = ap (λ (x : List ℕ). getD x k 0) e ∙ getD-build 96 maskIn k l
+    mask-at k l = ap (λ (x : List ℕ). getD x k 0) e ∙ getD-build 128 maskIn k l
 
-    marked-at : (q L k : ℕ) → q < 3 → L < 32 → k ≡ 32 * q + L → marked t k ≡ part q (T L) (ix L)
+    marked-at : (q L k : ℕ) → q < 4 → L < 32 → k ≡ 32 * q + L → marked t k ≡ part q (E L) (T L) (ix L)
     marked-at q L k hq l p = ap (λ (x : ℕ). eqb x 0xFFFFFFFF) (mask-at k (omega arith) ∙ sym (mask-in q L k l p)) ∙ marks _
 
     pub are-masks : Masks t
     unfolding Masks
     are-masks k l = mask-at k l ∙ ap full (sym (ap (λ (x : ℕ). eqb x 0xFFFFFFFF) (mask-at k l) ∙ marks _))
+
+-- the first row is as it was
+still-enabled : (image t : List ℕ) (T ix : ℕ → Bool) → t ≡ maskRows (λ L. enabled (laneIn image L)) T ix → Enabled t image
+unfolding maskRows part pick
+still-enabled image t T ix e =
+    record {
+      size = ap length e ∙ length-build 128 _;
+      mask-is = λ k l. mask-at (λ L. enabled (laneIn image L)) T ix t e k (omega arith) ∙ sym (mask-in (λ L. enabled (laneIn image L)) T ix 0 k k l (omega arith));
+    }
 
 -- ---- stores under masks
 
@@ -190,7 +225,7 @@ chosen-first p q false true own h = ap (λ (f : Lane). upd f q (own p)) (upd-hel
 chosen-first p q false false own h = ap (λ (f : Lane). upd f q (own q)) (upd-held own p (own p) refl) ∙ upd-held own q (own q) refl
 
 -- one lane's part of an exchange, both words chosen before the first store
-pub exchange-in : (image x y : List ℕ) (n p q a b w v f g : ℕ) (t : List ℕ) → Masks t → (p ≡ q → ⊥) → a < 96 → b < 96
+pub exchange-in : (image x y : List ℕ) (n p q a b w v f g : ℕ) (t : List ℕ) → Masks t → (p ≡ q → ⊥) → a < 128 → b < 128
     → w ≡ laneIn image n p → v ≡ laneIn image n q
     → ((s : Bool) → getD t a 0 ≡ full s → f ≡ pick s v w)
     → ((s : Bool) → getD t b 0 ≡ full s → g ≡ pick s w v)
@@ -202,7 +237,7 @@ exchange-in image x y n p q a b w v f g t m h ha hb ew ev ef eg ex ey =
     in-then image x y n ((p, f) ∷ []) ((q, g) ∷ []) (ex true refl) (ey true refl)
     ∙ rw (ef (marked t a) (m a ha), eg (marked t b) (m b hb), ew, ev) (in-same image n _ _ (chosen-first p q (marked t a) (marked t b) (laneIn image n) h))
 
-pub store-in : (image x words : List ℕ) (n p a : ℕ) (t : List ℕ) → Masks t → a < 96
+pub store-in : (image x words : List ℕ) (n p a : ℕ) (t : List ℕ) → Masks t → a < 128
     → ((s : Bool) → getD t a 0 ≡ full s → x ≡ storingIn image n (pick s ((p, getD words n 0) ∷ []) []))
     → x ≡ storingIn image n (storedUnder p (marked t a) (getD words n 0))
 unfolding Masks
@@ -274,7 +309,7 @@ module _ (image x t : List ℕ) (vc vd : ℕ) where
 module _ (image c d t : List ℕ) where
   abbrev pub rowsBy : Bool → Bool → ℕ → List ℕ
   rowsBy always free mask =
-      maskRows (λ L. swapsBy always free mask L (getD c L 0) (getD d L 0) (laneIn image L)) (λ L. bit (laneIn image L 12) 2)
+      maskRows (λ L. enabled (laneIn image L)) (λ L. swapsBy always free mask L (getD c L 0) (getD d L 0) (laneIn image L)) (λ L. bit (laneIn image L 12) 2)
 
   -- under mod 0 no mask is asked
   pub rows-always : (a f : Bool) (m : ℕ) → true ≡ a → true ≡ f → t ≡ rowsBy true true 0 → t ≡ rowsBy a f m
@@ -347,7 +382,7 @@ exchanged-kept vc vd c d own now false ix p = refl
 
 -- ---- all lanes
 
-module _ (image t : List ℕ) (i : Insn) (T ix : ℕ → Bool) (e : t ≡ maskRows T ix) where
+module _ (image t : List ℕ) (i : Insn) (E T ix : ℕ → Bool) (e : t ≡ maskRows E T ix) where
   by-masks : (r L w : ℕ) → L < 32 → storedTo r t L w ≡ stores (T L) (ix L) r w
   unfolding storedTo masksAt part pick
   by-masks r L w l =
@@ -355,17 +390,17 @@ module _ (image t : List ℕ) (i : Insn) (T ix : ℕ → Bool) (e : t ≡ maskRo
       (λ h.
       split r 4
       (λ k.
-      sym (stored-low r 32 t L w h (sym (pick-false (ltb r 4) 0 32 (le-ltb r 4 k))))
-      ∙ ap (λ (b : Bool). storedUnder r b w) (marked-at T ix t e 1 L (32 + L) (omega arith) l (omega arith))
+      sym (stored-low r 64 t L w h (sym (pick-false (ltb r 4) 32 64 (le-ltb r 4 k))))
+      ∙ ap (λ (b : Bool). storedUnder r b w) (marked-at E T ix t e 2 L (64 + L) (omega arith) l (omega arith))
       ∙ stores-middle (T L) (ix L) r w k h)
       (λ k.
-      sym (stored-low r 0 t L w h (sym (pick-true (ltb r 4) 0 32 (lt-ltb r 4 k))))
-      ∙ ap (λ (b : Bool). storedUnder r b w) (marked-at T ix t e 0 L (0 + L) (omega arith) l (omega arith))
+      sym (stored-low r 32 t L w h (sym (pick-true (ltb r 4) 32 64 (lt-ltb r 4 k))))
+      ∙ ap (λ (b : Bool). storedUnder r b w) (marked-at E T ix t e 1 L (32 + L) (omega arith) l (omega arith))
       ∙ stores-low (T L) (ix L) r w k))
 
-  by-index : (L : ℕ) → L < 32 → marked t (64 + L) ≡ (T L && ix L)
+  by-index : (L : ℕ) → L < 32 → marked t (96 + L) ≡ (T L && ix L)
   unfolding part pick
-  by-index L l = marked-at T ix t e 2 L (64 + L) (omega arith) l (omega arith)
+  by-index L l = marked-at E T ix t e 3 L (96 + L) (omega arith) l (omega arith)
 
   abbrev own : ℕ → Lane
   own L = laneIn image L
@@ -408,6 +443,9 @@ module _ (image t : List ℕ) (i : Insn) (T ix : ℕ → Bool) (e : t ≡ maskRo
 -- SWAP, from the rows of operands and masks
 module _ (image c d t : List ℕ) (i : Insn) (ec : c ≡ row (λ L. reg L (laneIn image L) (i .vc))) (ed : d ≡ row (λ L. reg L (laneIn image L) (i .vd)))
     (e : t ≡ rowsBy image c d t (eqb (i .md) 0) (ltb (i .vd) 12) (maskOf (i .md))) where
+  E : ℕ → Bool
+  E L = enabled (laneIn image L)
+
   T : ℕ → Bool
   T L = swapsBy (eqb (i .md) 0) (ltb (i .vd) 12) (maskOf (i .md)) L (getD c L 0) (getD d L 0) (laneIn image L)
 
@@ -416,13 +454,17 @@ module _ (image c d t : List ℕ) (i : Insn) (ec : c ≡ row (λ L. reg L (laneI
 
   pub swap-made : (y z : List ℕ)
       → y ≡ storing image (λ L. storedBoth (i .vc) (i .vd) t L (laneIn image L))
-      → z ≡ storing y (λ L. exchanged (indexOf (i .vc)) (indexOf (i .vd)) (marked t (64 + L)) (marked t (64 + L)) (laneIn y L))
+      → z ≡ storing y (λ L. exchanged (indexOf (i .vc)) (indexOf (i .vd)) (marked t (96 + L)) (marked t (96 + L)) (laneIn y L))
       → z ≡ storing image (λ L. swap i L (laneIn image L))
-  unfolding T ix swap swapWith
+  unfolding E T ix swap swapWith
   swap-made y z h k =
-      made image t i T ix e y z (both image t i T ix e y h)
-      (k ∙ storing-same y _ _ (λ L l. ap (λ (b : Bool). exchanged (indexOf (i .vc)) (indexOf (i .vd)) b b (laneIn y L)) (by-index image t i T ix e L l)))
+      made image t i E T ix e y z (both image t i E T ix e y h)
+      (k ∙ storing-same y _ _ (λ L l. ap (λ (b : Bool). exchanged (indexOf (i .vc)) (indexOf (i .vd)) b b (laneIn y L)) (by-index image t i E T ix e L l)))
       ∙ storing-same image _ _ (λ L l. rw (operand c _ ec L l, operand d _ ed L l))
+
+  -- and the masks of the enabled lanes are as they were
+  pub swap-enabled : (z : List ℕ) → z ≡ storing image (λ L. swap i L (laneIn image L)) → Enabled t z
+  swap-enabled z p = quiet-enabled t image z _ (λ L l. quiet-swap i L (laneIn image L)) (still-enabled image t _ _ e) p
 
 -- ---- a register stored to itself
 

@@ -1,8 +1,10 @@
 -- Images after stores in all lanes, rows, and masks: the vocabulary of the operations over all lanes. Their contracts cite these; the promises of
 -- `run` and `step` do not rest on them.
-use Prim.Native.Nat.{ℕ, _+_, _/_, _%_}
+use Prim.Native.Nat.{ℕ, _+_, _/_, _%_, _<_}
+use mathlib.Core.Path.{_≡_}
 use mathlib.Core.Bool.{Bool}
 use mathlib.Core.List.{List, []}
+use lib.ListN.{length, getD}
 use lib.Dec.{eqb, ltb}
 use Rattle.lane.specs.Words.{pick, Stores, build, after, enabled, fixedWord}
 use Rattle.runner.specs.Image.{laneIn, ofLanes}
@@ -23,9 +25,10 @@ row f = build 32 f
 unfoldable pub full : Bool → ℕ
 full t = pick t 0xFFFFFFFF 0
 
--- The row of masks of the lanes that are enabled.
-unfoldable pub enabledIn : List ℕ → List ℕ
-enabledIn image = row (λ L. full (enabled (laneIn image L)))
+-- A run's four rows of masks: the first is of the lanes that are enabled in its image.
+pub record Enabled (go image : List ℕ) : Type 0 where
+  pub size : length go ≡ 128
+  pub mask-is : (n : ℕ) → n < 32 → getD go n 0 ≡ full (enabled (laneIn image n))
 
 -- The rows of the registers that are never stored, one after the other: 8, 9, 10 and 15, the last for any number past 10.
 abbrev pub fixedRegister : ℕ → ℕ

@@ -6,18 +6,18 @@ use Rattle.lane.specs.declared.Settings.{Settings}
 use Rattle.lane.specs.declared.Insn.{Insn}
 use Rattle.runner.specs.Checks.{countOf}
 use Rattle.runner.specs.Run.{Machine, imageAt, imageAfter, cursorAfter, steps}
-use Rattle.runner.specs.Rows.{enabledIn}
+use Rattle.runner.specs.Rows.{Enabled}
 
 -- What an instruction that is no LOAD leaves: no address and no Dst has a part in it.
 pub record Stored (s : Settings) (i : Insn) (image after go : List ℕ) : Type 0 where
   pub image-is : (a : ℕ) (dst : List ℕ) → after ≡ imageAt s i a image dst
-  pub enabled-is : go ≡ enabledIn after
+  pub enabled-is : Enabled go after
 
--- What an instruction leaves: the cursor, the image, and the row of the lanes that are enabled.
+-- What an instruction leaves: the cursor, the image, and the masks of the lanes that are enabled.
 pub record Left (s : Settings) (i : Insn) (cursor : ℕ) (image dst : List ℕ) (next : ℕ) (after go : List ℕ) : Type 0 where
   pub cursor-is : next ≡ cursorAfter s i cursor
   pub image-is : after ≡ imageAfter s i cursor image dst
-  pub enabled-is : go ≡ enabledIn after
+  pub enabled-is : Enabled go after
 
 -- A whole list, from a given cursor.
 abbrev pub from : Settings → ℕ → List ℕ → List ℕ → List ℕ → Machine

@@ -18,21 +18,22 @@ abbrev pub swapsBy : Bool → Bool → ℕ → ℕ → ℕ → ℕ → Lane → 
 swapsBy always free mask L c d own =
     ((free || bit (own laneConfig) 4) && enabled own) && swaps always (inMask mask L) (bit (own laneConfig) 8) c d
 
--- A lane's tests in the three rows, where it swaps (t) with bit 2 set or clear (ix): it swaps; with bit 2 clear; with bit 2 set.
-unfoldable pub part : ℕ → Bool → Bool → Bool
-part q t ix = pick (eqb q 0) t (pick (eqb q 1) (t && not ix) (t && ix))
+-- A lane's tests in the four rows, where it is enabled (e) and swaps (t) with bit 2 set or clear (ix): it is enabled; it swaps; with bit 2 clear; with
+-- bit 2 set.
+unfoldable pub part : ℕ → Bool → Bool → Bool → Bool
+part q e t ix = pick (eqb q 0) e (pick (eqb q 1) t (pick (eqb q 2) (t && not ix) (t && ix)))
 
--- The three rows of masks, one after the other.
-unfoldable pub maskRows : (ℕ → Bool) → (ℕ → Bool) → List ℕ
-maskRows T ix = build 96 (λ k. full (part (k / 32) (T (k % 32)) (ix (k % 32))))
+-- The four rows of masks, one after the other.
+unfoldable pub maskRows : (ℕ → Bool) → (ℕ → Bool) → (ℕ → Bool) → List ℕ
+maskRows E T ix = build 128 (λ k. full (part (k / 32) (E (k % 32)) (T (k % 32)) (ix (k % 32))))
 
 -- Whether the mask at k is set.
 abbrev pub marked : List ℕ → ℕ → Bool
 marked t k = eqb (getD t k 0) 0xFFFFFFFF
 
--- Each of the 96 words is a mask.
+-- Each of the 128 words is a mask.
 unfoldable pub Masks : List ℕ → Type 0
-Masks t = (k : ℕ) → k < 96 → getD t k 0 ≡ full (marked t k)
+Masks t = (k : ℕ) → k < 128 → getD t k 0 ≡ full (marked t k)
 
 -- A store under a test.
 abbrev pub storedUnder : ℕ → Bool → ℕ → Stores
@@ -44,7 +45,7 @@ exchanged p q s t own = storedUnder p s (own q) ++ storedUnder q t (own p)
 
 -- Where the masks of a store to register r begin: the row of every lane that swaps, or of those with bit 2 clear.
 unfoldable pub masksAt : ℕ → ℕ
-masksAt r = pick (ltb r 4) 0 32
+masksAt r = pick (ltb r 4) 32 64
 
 -- A swap's store to register r, only below 8.
 unfoldable pub storedTo : ℕ → List ℕ → ℕ → ℕ → Stores

@@ -68,8 +68,8 @@ fn word_put(image: &mut [u32], n: usize, op: u32, i: Insn, b: u32, c: u32, mask:
     put(image, vd, n, mask, word);
 }
 
-fn word_rows(image: &mut [u32], op: u32, i: Insn, b: &[u32; 32], c: &[u32; 32], go: &[u32; 32])
-    requires { ⌜ (length (now image) ≡ 768) × ((now go ≡ Rows.enabledIn (now image)) × (i .vd < 8)) ⌝ }
+fn word_rows(image: &mut [u32], op: u32, i: Insn, b: &[u32; 32], c: &[u32; 32], go: &[u32; 128])
+    requires { ⌜ (length (now image) ≡ 768) × ((Rows.Enabled (now go) (now image)) × (i .vd < 8)) ⌝ }
     ensures { λ _. ⌜ now (image .exit) ≡ Rows.storing (now (image .entry)) (λ L. Compute.wordWith op i (getD (now (b .entry)) L 0) (getD (now (c .entry)) L 0) (laneIn (now (image .entry)) L)) ⌝ }
 {
     let mut n: usize = 0;
@@ -120,10 +120,10 @@ fn flagged_rows(
     sets: bool,
     b: &[u32; 32],
     c: &[u32; 32],
-    go: &mut [u32; 32],
+    go: &mut [u32; 128],
 )
-    requires { ⌜ (length (now image) ≡ 768) × ((now go ≡ Rows.enabledIn (now image)) × (i .vd < 8)) ⌝ }
-    ensures { λ _. ⌜ (now (image .exit) ≡ Rows.storing (now (image .entry)) (λ L. Compute.flaggedWith op i sets (getD (now (b .entry)) L 0) (getD (now (c .entry)) L 0) (laneIn (now (image .entry)) L))) × (now (go .exit) ≡ Rows.enabledIn (now (image .exit))) ⌝ }
+    requires { ⌜ (length (now image) ≡ 768) × ((Rows.Enabled (now go) (now image)) × (i .vd < 8)) ⌝ }
+    ensures { λ _. ⌜ (now (image .exit) ≡ Rows.storing (now (image .entry)) (λ L. Compute.flaggedWith op i sets (getD (now (b .entry)) L 0) (getD (now (c .entry)) L 0) (laneIn (now (image .entry)) L))) × (Rows.Enabled (now (go .exit)) (now (image .exit))) ⌝ }
 {
     let mut n: usize = 0;
     while n < 32 {
@@ -162,8 +162,8 @@ fn with_mod(i: Insn, m: u32) -> Insn
 
 // ABS, AND, OR, XOR, NOT or EXMAN over all lanes. AND and OR are of vb and vc with mod 0 too, vd then standing for vb; in the others mod is odd or even.
 // So mod is a constant in every loop.
-pub(crate) fn valued(image: &mut [u32], op: u32, i: Insn, go: &[u32; 32], fixed: &[u32; 128])
-    requires { ⌜ (length (now image) ≡ 768) × ((now go ≡ Rows.enabledIn (now image)) × ((now fixed ≡ Rows.fixedRows) × (Compute.setsFlags op ≡ false))) ⌝ }
+pub(crate) fn valued(image: &mut [u32], op: u32, i: Insn, go: &[u32; 128], fixed: &[u32; 128])
+    requires { ⌜ (length (now image) ≡ 768) × ((Rows.Enabled (now go) (now image)) × ((now fixed ≡ Rows.fixedRows) × (Compute.setsFlags op ≡ false))) ⌝ }
     ensures { λ _. ⌜ now (image .exit) ≡ Rows.storing (now (image .entry)) (λ L. Rules.valued op i L (laneIn (now (image .entry)) L)) ⌝ }
 {
     if i.vd < 8 {
@@ -188,9 +188,9 @@ fn touches(sets: bool, m: u32) -> bool
 }
 
 // IADD over all lanes.
-pub(crate) fn iadd(image: &mut [u32], i: Insn, go: &mut [u32; 32], fixed: &[u32; 128])
-    requires { ⌜ (length (now image) ≡ 768) × ((now go ≡ Rows.enabledIn (now image)) × (now fixed ≡ Rows.fixedRows)) ⌝ }
-    ensures { λ _. ⌜ (now (image .exit) ≡ Rows.storing (now (image .entry)) (λ L. Rules.iadd i L (laneIn (now (image .entry)) L))) × (now (go .exit) ≡ Rows.enabledIn (now (image .exit))) ⌝ }
+pub(crate) fn iadd(image: &mut [u32], i: Insn, go: &mut [u32; 128], fixed: &[u32; 128])
+    requires { ⌜ (length (now image) ≡ 768) × ((Rows.Enabled (now go) (now image)) × (now fixed ≡ Rows.fixedRows)) ⌝ }
+    ensures { λ _. ⌜ (now (image .exit) ≡ Rows.storing (now (image .entry)) (λ L. Rules.iadd i L (laneIn (now (image .entry)) L))) × (Rows.Enabled (now (go .exit)) (now (image .exit))) ⌝ }
 {
     if i.vd < 8 {
         let c = source(image, fixed, i.vc);
@@ -204,9 +204,9 @@ pub(crate) fn iadd(image: &mut [u32], i: Insn, go: &mut [u32; 32], fixed: &[u32;
 }
 
 // LZ over all lanes.
-pub(crate) fn lz(image: &mut [u32], i: Insn, go: &mut [u32; 32], fixed: &[u32; 128])
-    requires { ⌜ (length (now image) ≡ 768) × ((now go ≡ Rows.enabledIn (now image)) × (now fixed ≡ Rows.fixedRows)) ⌝ }
-    ensures { λ _. ⌜ (now (image .exit) ≡ Rows.storing (now (image .entry)) (λ L. Rules.lz i L (laneIn (now (image .entry)) L))) × (now (go .exit) ≡ Rows.enabledIn (now (image .exit))) ⌝ }
+pub(crate) fn lz(image: &mut [u32], i: Insn, go: &mut [u32; 128], fixed: &[u32; 128])
+    requires { ⌜ (length (now image) ≡ 768) × ((Rows.Enabled (now go) (now image)) × (now fixed ≡ Rows.fixedRows)) ⌝ }
+    ensures { λ _. ⌜ (now (image .exit) ≡ Rows.storing (now (image .entry)) (λ L. Rules.lz i L (laneIn (now (image .entry)) L))) × (Rows.Enabled (now (go .exit)) (now (image .exit))) ⌝ }
 {
     if i.vd < 8 {
         let c = source(image, fixed, i.vc);
@@ -221,9 +221,9 @@ pub(crate) fn lz(image: &mut [u32], i: Insn, go: &mut [u32; 32], fixed: &[u32; 1
 }
 
 // EXEXP over all lanes.
-pub(crate) fn exexp(image: &mut [u32], i: Insn, go: &mut [u32; 32], fixed: &[u32; 128])
-    requires { ⌜ (length (now image) ≡ 768) × ((now go ≡ Rows.enabledIn (now image)) × (now fixed ≡ Rows.fixedRows)) ⌝ }
-    ensures { λ _. ⌜ (now (image .exit) ≡ Rows.storing (now (image .entry)) (λ L. Rules.exexp i L (laneIn (now (image .entry)) L))) × (now (go .exit) ≡ Rows.enabledIn (now (image .exit))) ⌝ }
+pub(crate) fn exexp(image: &mut [u32], i: Insn, go: &mut [u32; 128], fixed: &[u32; 128])
+    requires { ⌜ (length (now image) ≡ 768) × ((Rows.Enabled (now go) (now image)) × (now fixed ≡ Rows.fixedRows)) ⌝ }
+    ensures { λ _. ⌜ (now (image .exit) ≡ Rows.storing (now (image .entry)) (λ L. Rules.exexp i L (laneIn (now (image .entry)) L))) × (Rows.Enabled (now (go .exit)) (now (image .exit))) ⌝ }
 {
     if i.vd < 8 {
         let c = source(image, fixed, i.vc);

@@ -68,18 +68,17 @@ pub(crate) fn slot_row(image: &[u32], slot: usize) -> [u32; 32]
     copied(image, 32 * slot)
 }
 
-// The masks of the lanes that are enabled. A run keeps this row, and the three operations that set flags keep it up.
-pub(crate) fn enabled_row(image: &[u32]) -> [u32; 32]
-    requires { ⌜ length (now image) ≡ 768 ⌝ }
-    ensures { λ x. ⌜ x ≡ Rows.enabledIn (now (image .entry)) ⌝ }
+// The masks of the lanes that are enabled, in the first of a run's four rows of masks: the three operations that set flags keep it up. The other three
+// are SWAP's scratch. The rows are lent and not returned, so that they stay where they are.
+pub(crate) fn enabled_row(image: &[u32], go: &mut [u32; 128])
+    requires { ⌜ (length (now image) ≡ 768) × (length (now go) ≡ 128) ⌝ }
+    ensures { λ _. ⌜ Rows.Enabled (now (go .exit)) (now (image .entry)) ⌝ }
 {
-    let mut go = [0u32; 32];
     let mut n: usize = 0;
     while n < 32 {
         go[n] = full(enabled(word_at(image, USE_FLAG, n), word_at(image, LANE_FLAG, n)));
         n += 1;
     }
-    go
 }
 
 // The rows of the registers that are never stored, one after the other: 8, 9, 10 and 15.

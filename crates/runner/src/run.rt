@@ -25,24 +25,17 @@ ghost use Rattle.runner.specs.Run as Run;
 ghost use Rattle.runner.specs.Rows as Rows;
 ghost use Rattle.runner.specs.StepRows as Steps;
 
-// Any instruction but LOAD, in every lane. `go` are the lanes that are enabled, `fixed` the rows of the registers never stored, `t` is scratch. The
-// op is a constant where one function serves several.
-fn step_stored(
-    s: Settings,
-    i: Insn,
-    image: &mut [u32],
-    go: &mut [u32; 32],
-    fixed: &[u32; 128],
-    t: &mut [u32; 96],
-)
-    requires { ⌜ (length (now image) ≡ 768) × ((now go ≡ Rows.enabledIn (now image)) × ((now fixed ≡ Rows.fixedRows) × (i .op ≡ 1 → ⊥))) ⌝ }
+// Any instruction but LOAD, in every lane. `go` are the run's rows of masks, `fixed` the rows of the registers never stored. The op is a constant
+// where one function serves several.
+fn step_stored(s: Settings, i: Insn, image: &mut [u32], go: &mut [u32; 128], fixed: &[u32; 128])
+    requires { ⌜ (length (now image) ≡ 768) × ((Rows.Enabled (now go) (now image)) × ((now fixed ≡ Rows.fixedRows) × (i .op ≡ 1 → ⊥))) ⌝ }
     ensures { λ _. ⌜ Steps.Stored s i (now (image .entry)) (now (image .exit)) (now (go .exit)) ⌝ }
 {
     let op = i.op;
     match op {
         2 => loadi(image, i, go),
         3 => lut(image, i, go),
-        4 => swap(image, i, go, fixed, t),
+        4 => swap(image, i, go, fixed),
         5 => config(image, s.edition, i),
         6 => iadd(image, i, go, fixed),
         7 => valued(image, 7, i, go, fixed),
@@ -64,11 +57,10 @@ fn step_lanes(
     cursor: u32,
     image: &mut [u32],
     dst: &[u16],
-    go: &mut [u32; 32],
+    go: &mut [u32; 128],
     fixed: &[u32; 128],
-    t: &mut [u32; 96],
 ) -> u32
-    requires { ⌜ (length (now image) ≡ 768) × ((length (now dst) ≡ 16384) × ((now go ≡ Rows.enabledIn (now image)) × (now fixed ≡ Rows.fixedRows))) ⌝ }
+    requires { ⌜ (length (now image) ≡ 768) × ((length (now dst) ≡ 16384) × ((Rows.Enabled (now go) (now image)) × (now fixed ≡ Rows.fixedRows))) ⌝ }
     ensures { λ r. ⌜ Steps.Left s i cursor (now (image .entry)) (now (dst .entry)) r (now (image .exit)) (now (go .exit)) ⌝ }
 {
     if i.op == 1 {
@@ -76,7 +68,7 @@ fn step_lanes(
         load(image, dst, s.srcb, a, i, go);
         return next_cursor(1, cursor, stride(s, i.vb));
     }
-    step_stored(s, i, image, go, fixed, t);
+    step_stored(s, i, image, go, fixed);
     cursor
 }
 
@@ -86,13 +78,13 @@ fn step_all(s: Settings, cursor: u32, image: &mut [u32], dst: &[u16], list: &[u3
     ensures { λ r. ⌜ (r ≡ Steps.from s cursor (now (image .entry)) (now (dst .entry)) (now (list .entry)) .cursor) × (now (image .exit) ≡ Steps.from s cursor (now (image .entry)) (now (dst .entry)) (now (list .entry)) .image) ⌝ }
 {
     let count = list.len() / 6;
-    let mut go = enabled_row(image);
+    let mut go = [0u32; 128];
+    enabled_row(image, &mut go);
     let fixed = fixed_rows();
-    let mut t = [0u32; 96];
     let mut at = cursor;
     let mut k: usize = 0;
     while k < count {
-        at = step_lanes(s, insn_at(list, k), at, image, dst, &mut go, &fixed, &mut t);
+        at = step_lanes(s, insn_at(list, k), at, image, dst, &mut go, &fixed);
         k += 1;
     }
     at

@@ -14,7 +14,7 @@ ghost use mathlib.Core.Bool.{Bool, _&&_, _||_};
 ghost use Prim.Native.Nat.{_+_, _<_, _≤_};
 ghost use lib.ListN.{length, getD};
 ghost use lib.Dec.{eqb, ltb};
-ghost use Rattle.lane.specs.Words.{bit, reg};
+ghost use Rattle.lane.specs.Words.{bit, enabled, reg};
 ghost use Rattle.lane.specs.Swap as Rules;
 ghost use Rattle.runner.specs.Image.{laneIn};
 ghost use Rattle.runner.specs.Rows as Rows;
@@ -37,7 +37,7 @@ fn swap_mask(go: u32, always: bool, free: bool, minimum: bool, config: u32, c: u
     go & full((free | (config / 16 % 2 == 1)) & swapping)
 }
 
-// The rows of masks: the lanes that swap; of those, the lanes with bit 2 clear; and those with it set.
+// The rows of masks after the first, the lanes that are enabled: the lanes that swap; of those, the lanes with bit 2 clear; and those with it set.
 fn swap_masks(
     image: &[u32],
     always: bool,
@@ -45,17 +45,16 @@ fn swap_masks(
     mask: u32,
     c: &[u32; 32],
     d: &[u32; 32],
-    go: &[u32; 32],
     t: &mut [u32],
 )
-    requires { ⌜ (length (now image) ≡ 768) × ((length (now t) ≡ 96) × (now go ≡ Rows.enabledIn (now image))) ⌝ }
-    ensures { λ _. ⌜ now (t .exit) ≡ Swaps.maskRows (λ L. Swaps.swapsBy always free mask L (getD (now (c .entry)) L 0) (getD (now (d .entry)) L 0) (laneIn (now (image .entry)) L)) (λ L. bit (laneIn (now (image .entry)) L 12) 2) ⌝ }
+    requires { ⌜ (length (now image) ≡ 768) × Rows.Enabled (now t) (now image) ⌝ }
+    ensures { λ _. ⌜ now (t .exit) ≡ Swaps.maskRows (λ L. enabled (laneIn (now (image .entry)) L)) (λ L. Swaps.swapsBy always free mask L (getD (now (c .entry)) L 0) (getD (now (d .entry)) L 0) (laneIn (now (image .entry)) L)) (λ L. bit (laneIn (now (image .entry)) L 12) 2) ⌝ }
 {
     let mut n: usize = 0;
     while n < 32 {
         let config = word_at(image, LANE_CONFIG, n);
         let on = swap_mask(
-            go[n],
+            t[n],
             always,
             free,
             in_mask(mask, n as u8),
@@ -64,33 +63,33 @@ fn swap_masks(
             d[n],
         );
         let index = on & full(config / 4 % 2 == 1);
-        t[n] = on;
-        t[32 + n] = on ^ index;
-        t[64 + n] = index;
+        t[32 + n] = on;
+        t[64 + n] = on ^ index;
+        t[96 + n] = index;
         n += 1;
     }
 }
 
 // The same for an instruction. Each call but the last has constants for the tests, so that each has a loop of its own once compiled.
-fn masks_of(image: &[u32], i: Insn, c: &[u32; 32], d: &[u32; 32], go: &[u32; 32], t: &mut [u32])
-    requires { ⌜ (length (now image) ≡ 768) × ((length (now t) ≡ 96) × (now go ≡ Rows.enabledIn (now image))) ⌝ }
-    ensures { λ _. ⌜ now (t .exit) ≡ Swaps.maskRows (λ L. Swaps.swapsBy (eqb (i .md) 0) (ltb (i .vd) 12) (Rules.maskOf (i .md)) L (getD (now (c .entry)) L 0) (getD (now (d .entry)) L 0) (laneIn (now (image .entry)) L)) (λ L. bit (laneIn (now (image .entry)) L 12) 2) ⌝ }
+fn masks_of(image: &[u32], i: Insn, c: &[u32; 32], d: &[u32; 32], t: &mut [u32])
+    requires { ⌜ (length (now image) ≡ 768) × Rows.Enabled (now t) (now image) ⌝ }
+    ensures { λ _. ⌜ now (t .exit) ≡ Swaps.maskRows (λ L. enabled (laneIn (now (image .entry)) L)) (λ L. Swaps.swapsBy (eqb (i .md) 0) (ltb (i .vd) 12) (Rules.maskOf (i .md)) L (getD (now (c .entry)) L 0) (getD (now (d .entry)) L 0) (laneIn (now (image .entry)) L)) (λ L. bit (laneIn (now (image .entry)) L 12) 2) ⌝ }
 {
     if i.vd < 12 {
         if i.md == 0 {
-            swap_masks(image, true, true, 0, c, d, go, t);
+            swap_masks(image, true, true, 0, c, d, t);
         } else {
-            swap_masks(image, false, true, mask_of(i.md), c, d, go, t);
+            swap_masks(image, false, true, mask_of(i.md), c, d, t);
         }
     } else {
-        swap_masks(image, i.md == 0, false, mask_of(i.md), c, d, go, t);
+        swap_masks(image, i.md == 0, false, mask_of(i.md), c, d, t);
     }
 }
 
 // Two different registers exchanged in place: q's word to p under the masks from `a` on, and p's to q under those from `b` on. Both words are
 // chosen before the first store, so that the second reads nothing again.
-fn exchange(image: &mut [u32], p: usize, q: usize, t: &[u32; 96], a: usize, b: usize)
-    requires { ⌜ (length (now image) ≡ 768) × (Swaps.Masks (now t) × ((p ≡ q → ⊥) × (((p < 24) × (q < 24)) × ((a ≤ 64) × (b ≤ 64))))) ⌝ }
+fn exchange(image: &mut [u32], p: usize, q: usize, t: &[u32; 128], a: usize, b: usize)
+    requires { ⌜ (length (now image) ≡ 768) × (Swaps.Masks (now t) × ((p ≡ q → ⊥) × (((p < 24) × (q < 24)) × ((a ≤ 96) × (b ≤ 96))))) ⌝ }
     ensures { λ _. ⌜ now (image .exit) ≡ Rows.storing (now (image .entry)) (λ L. Swaps.exchanged p q (Swaps.marked (now (t .entry)) (a + L)) (Swaps.marked (now (t .entry)) (b + L)) (laneIn (now (image .entry)) L)) ⌝ }
 {
     let mut n: usize = 0;
@@ -104,8 +103,8 @@ fn exchange(image: &mut [u32], p: usize, q: usize, t: &[u32; 96], a: usize, b: u
 }
 
 // A row stored to register p under the masks from `a` on.
-fn store_part(image: &mut [u32], p: usize, t: &[u32; 96], a: usize, words: &[u32; 32])
-    requires { ⌜ (length (now image) ≡ 768) × (Swaps.Masks (now t) × ((p < 24) × (a ≤ 64))) ⌝ }
+fn store_part(image: &mut [u32], p: usize, t: &[u32; 128], a: usize, words: &[u32; 32])
+    requires { ⌜ (length (now image) ≡ 768) × (Swaps.Masks (now t) × ((p < 24) × (a ≤ 96))) ⌝ }
     ensures { λ _. ⌜ now (image .exit) ≡ Rows.storing (now (image .entry)) (λ L. Swaps.storedUnder p (Swaps.marked (now (t .entry)) (a + L)) (getD (now (words .entry)) L 0)) ⌝ }
 {
     let mut n: usize = 0;
@@ -117,13 +116,13 @@ fn store_part(image: &mut [u32], p: usize, t: &[u32; 96], a: usize, words: &[u32
 
 // Where the masks of a store to register r begin: below 4 every lane that swaps makes it, from 4 on those with bit 2 clear.
 fn masks_at(r: u32) -> usize
-    ensures { λ x. ⌜ (x ≤ 64) × (x ≡ Swaps.masksAt r) ⌝ }
+    ensures { λ x. ⌜ (x ≤ 96) × (x ≡ Swaps.masksAt r) ⌝ }
 {
-    if r < 4 { 0 } else { 32 }
+    if r < 4 { 32 } else { 64 }
 }
 
 // The stores to vc and vd, whose rows are `c` and `d`, each only below 8.
-fn store_both(image: &mut [u32], i: Insn, c: &[u32; 32], d: &[u32; 32], t: &[u32; 96])
+fn store_both(image: &mut [u32], i: Insn, c: &[u32; 32], d: &[u32; 32], t: &[u32; 128])
     requires { ⌜ (length (now image) ≡ 768) × ((i .vc ≡ i .vd → ⊥) × (Swaps.Masks (now t) × ((now c ≡ Rows.row (λ L. reg L (laneIn (now image) L) (i .vc))) × (now d ≡ Rows.row (λ L. reg L (laneIn (now image) L) (i .vd)))))) ⌝ }
     ensures { λ _. ⌜ now (image .exit) ≡ Rows.storing (now (image .entry)) (λ L. Swaps.storedBoth (i .vc) (i .vd) (now (t .entry)) L (laneIn (now (image .entry)) L)) ⌝ }
 {
@@ -145,27 +144,21 @@ fn store_both(image: &mut [u32], i: Insn, c: &[u32; 32], d: &[u32; 32], t: &[u32
     }
 }
 
-// SWAP over all lanes. `t` is scratch for three rows of masks.
-pub(crate) fn swap(
-    image: &mut [u32],
-    i: Insn,
-    go: &[u32; 32],
-    fixed: &[u32; 128],
-    t: &mut [u32; 96],
-)
-    requires { ⌜ (length (now image) ≡ 768) × ((now go ≡ Rows.enabledIn (now image)) × (now fixed ≡ Rows.fixedRows)) ⌝ }
-    ensures { λ _. ⌜ now (image .exit) ≡ Rows.storing (now (image .entry)) (λ L. Rules.swap i L (laneIn (now (image .entry)) L)) ⌝ }
+// SWAP over all lanes. `t` are the run's rows of masks: the first stays, and the other three are written.
+pub(crate) fn swap(image: &mut [u32], i: Insn, t: &mut [u32; 128], fixed: &[u32; 128])
+    requires { ⌜ (length (now image) ≡ 768) × (Rows.Enabled (now t) (now image) × (now fixed ≡ Rows.fixedRows)) ⌝ }
+    ensures { λ _. ⌜ (now (image .exit) ≡ Rows.storing (now (image .entry)) (λ L. Rules.swap i L (laneIn (now (image .entry)) L))) × Rows.Enabled (now (t .exit)) (now (image .exit)) ⌝ }
 {
     if i.vc == i.vd {
         return;
     }
     let c = source(image, fixed, i.vc);
     let d = source(image, fixed, i.vd);
-    masks_of(image, i, &c, &d, go, t);
+    masks_of(image, i, &c, &d, t);
     store_both(image, i, &c, &d, t);
     let p = (4 + i.vc % 4) as usize;
     let q = (4 + i.vd % 4) as usize;
     if p != q {
-        exchange(image, p, q, t, 64, 64);
+        exchange(image, p, q, t, 96, 96);
     }
 }

@@ -1,11 +1,9 @@
 use Prim.Native.Nat.{ℕ, _-_}
 use Rattle.lane.specs.Load.{loadi}
 use Rattle.lane.specs.Words.{Lane, enabled}
-use Rattle.runner.proofs.Filled.{operand}
 use Rattle.runner.proofs.Lanes.{turn-start, turned-length, turn-end, Turned}
 use Rattle.runner.proofs.LoadRows.{masked-turn, loadi-made}
 use Rattle.runner.proofs.load.loadi_rows.Statement.{statement}
-use Rattle.runner.specs.Rows.{enabledIn}
 use borrow.Author.Needs.{needs}
 use mathlib.Core.Path.{sym, _∙_}
 use native.Mathlib.Omega.{arith}
@@ -27,8 +25,7 @@ put-requires : tie.Need-put-requires Inv-loop μ-loop
 put-requires c κs = (turned-length _ _ _ _ (c .before .before .before .before .before .before .loop .inv), (omega (arith, c .before .before .before .before .before .before .before .before .before .pre .1 .1), c .before .before .before .before .before .loop-test .taken))
 
 loop-again : tie.Need-loop-again Inv-loop μ-loop
-unfolding enabledIn
-loop-again c = masked-turn _ enabled _ _ _ _ _ _ _ (c .before .before .before .before .before .before .before .before .before .before .before .before .pre .0) (c .before .before .before .before .before .before .before .before .loop-test .taken) (c .before .before .before .before .before .before .before .before .before .loop .inv) (operand _ _ (c .before .before .before .before .before .before .before .before .before .before .before .before .pre .1 .0) _ (c .before .before .before .before .before .before .before .before .loop-test .taken)) (c .before .before .put .ensures) (loadi-made _ _ _ _ (c .before .before .before .before .before .before .before .before .before .before .before .before .pre .1 .1) (c .before .before .before .before .before .immediate .ensures) (c .before .before .before .before .before .before .word-at .ensures))
+loop-again c = masked-turn _ enabled _ _ _ _ _ _ _ (c .before .before .before .before .before .before .before .before .before .before .before .before .pre .0) (c .before .before .before .before .before .before .before .before .loop-test .taken) (c .before .before .before .before .before .before .before .before .before .loop .inv) (c .before .before .before .before .before .before .before .before .before .before .before .before .pre .1 .0 .mask-is _ (c .before .before .before .before .before .before .before .before .loop-test .taken)) (c .before .before .put .ensures) (loadi-made _ _ _ _ (c .before .before .before .before .before .before .before .before .before .before .before .before .pre .1 .1) (c .before .before .before .before .before .immediate .ensures) (c .before .before .before .before .before .before .word-at .ensures))
 
 same-length : tie.Need-same-length Inv-loop μ-loop
 same-length c = turned-length _ _ _ _ (c .before .loop .inv) ∙ sym (c .before .before .before .before .pre .0)

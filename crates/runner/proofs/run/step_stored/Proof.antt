@@ -1,6 +1,6 @@
 use Rattle.lane.specs.Rule.{lanewise, storesOf}
 use Rattle.lane.specs.Words.{pick}
-use Rattle.runner.proofs.Quiet.{quiet-loadi, quiet-lut, quiet-swap, quiet-config, quiet-valued}
+use Rattle.runner.proofs.Quiet.{quiet-loadi, quiet-lut, quiet-config, quiet-valued}
 use Rattle.runner.proofs.Steps.{stored-arm, quiet-arm, no-arm, valued-rest}
 use Rattle.runner.proofs.run.step_stored.Statement.{statement}
 use Rattle.runner.specs.Image.{laneIn}
@@ -37,7 +37,7 @@ returns-2 c = quiet-arm (c .before .before .before .before .before .before .befo
 
 returns-3 : tie.Need-returns-3
 unfolding storesOf lanewise pick
-returns-3 c = quiet-arm (c .before .before .before .before .before .before .before .before .args .s) (c .before .before .before .before .before .before .before .before .args .i) _ _ _ _ (c .before .before .before .before .before .before .before .before .pre .1 .0) (c .before .before .swap .ensures) (λ L. quiet-swap (c .before .before .before .before .before .before .before .before .args .i) L (laneIn (c .before .before .before .before .before .before .before .before .args .image .now) L)) (λ a dst L. simp (c .before .before .before .before .before .before .match .keys3))
+returns-3 c = stored-arm (c .before .before .before .before .before .before .before .args .s) (c .before .before .before .before .before .before .before .args .i) _ _ _ _ (c .before .before .swap .ensures .1) (c .before .before .swap .ensures .0) (λ a dst L. simp (c .before .before .before .before .before .match .keys3))
 
 returns-4 : tie.Need-returns-4
 unfolding storesOf lanewise pick
