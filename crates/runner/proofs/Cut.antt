@@ -15,6 +15,7 @@ use Rattle.lane.specs.declared.Insn.{Insn}
 use Rattle.lane.specs.Words.{pick}
 use Rattle.lane.specs.Load.{nextCursor, stride}
 use Rattle.lane.specs.Refusals.{oneOrTwo, settingsGood, instructionAnswer}
+use Rattle.lane.proofs.Tables.{and-left, and-right}
 use Rattle.lane.proofs.Cases.{pick-true, pick-false, pick-lt}
 use Rattle.runner.specs.declared.Found.{Found}
 use Rattle.runner.specs.Image.{imageGood}
@@ -107,14 +108,6 @@ accept s image dst list h =
     ∙ all-scan list (length list / 6) 0 (λ j l. ap (λ (x : ℕ). instructionAnswer true (insnAt list x)) (zero-add j) ∙ h .each j l))
 
 -- ---- the cursor stays in its range
-
-and-left : (a b : Bool) → (a && b) ≡ true → a ≡ true
-and-left true b h = refl
-and-left false b h = absurd (false≢true h)
-
-and-right : (a b : Bool) → (a && b) ≡ true → b ≡ true
-and-right true b h = h
-and-right false b h = absurd (false≢true h)
 
 -- the settings before and after the cursor, taken apart
 cursor-in : (a b c d e f g h : Bool) → (a && b && c && d && e && f && g && h) ≡ true → d ≡ true

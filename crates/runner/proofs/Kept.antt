@@ -3,7 +3,7 @@ use mathlib.Core.Path.{_≡_, refl, sym, ap, _∙_}
 use Prim.Native.Nat.{ℕ, zero, suc, _+_, _%_, _<_, _≤_}
 use native.Mathlib.Nat.{le-step, le-refl, le-of-lt}
 use native.Mathlib.Omega.{arith}
-use mathlib.Core.Bool.{Bool, true, false, _&&_, false≢true}
+use mathlib.Core.Bool.{Bool, true, _&&_}
 use mathlib.Core.List.{List}
 use lib.ListN.{length}
 use Rattle.lane.specs.declared.Settings.{Settings}
@@ -11,6 +11,7 @@ use Rattle.lane.specs.declared.Insn.{Insn}
 use Rattle.lane.specs.Words.{pick, Lane, laneConfig, laneFlag, useFlag, misc}
 use Rattle.lane.specs.Load.{address}
 use Rattle.lane.specs.Refusals.{wellFormed, wellFormedBy}
+use Rattle.lane.proofs.Tables.{and-left, and-right}
 use Rattle.lane.proofs.WellFormed.{stays-well-formed}
 use Rattle.runner.specs.Image.{laneIn, ofLanes, lanesGood, imageGood}
 use Rattle.runner.specs.Checks.{insnAt}
@@ -20,14 +21,6 @@ use Rattle.runner.proofs.Lanes.{lane-of-lanes}
 both : (a b : Bool) → a ≡ true → b ≡ true → (a && b) ≡ true
 both a b p q = ap (λ (x : Bool). x && b) p ∙ q
 
-left : (a b : Bool) → (a && b) ≡ true → a ≡ true
-left true b h = refl
-left false b h = absurd (false≢true h)
-
-right : (a b : Bool) → (a && b) ≡ true → b ≡ true
-right true b h = h
-right false b h = absurd (false≢true h)
-
 -- the lanes that a well formed image has, and the image that well formed lanes make
 pub good-lane : (image : List ℕ) (n L : ℕ) → lanesGood image n ≡ true → L < n → wellFormed (laneIn image L) ≡ true
 unfolding lanesGood
@@ -36,10 +29,10 @@ good-lane image zero L h l = absurd (none L l)
     none : (L : ℕ) → L < 0 → ⊥
     none L l = omega arith
 good-lane image (suc n) L h l =
-    go (native.Mathlib.Decide.ℕ-discrete L n) (λ k. good-lane image n L (left (lanesGood image n) (wellFormed (laneIn image n)) h) k)
+    go (native.Mathlib.Decide.ℕ-discrete L n) (λ k. good-lane image n L (and-left (lanesGood image n) (wellFormed (laneIn image n)) h) k)
   where
     go : Dec (L ≡ n) → (L < n → wellFormed (laneIn image L) ≡ true) → wellFormed (laneIn image L) ≡ true
-    go (yes e) r = ap (λ (x : ℕ). wellFormed (laneIn image x)) e ∙ right (lanesGood image n) (wellFormed (laneIn image n)) h
+    go (yes e) r = ap (λ (x : ℕ). wellFormed (laneIn image x)) e ∙ and-right (lanesGood image n) (wellFormed (laneIn image n)) h
     go (no e) r = r (omega arith)
 
 good-below : (image : List ℕ) (n : ℕ) → ((L : ℕ) → L < n → wellFormed (laneIn image L) ≡ true) → lanesGood image n ≡ true

@@ -22,7 +22,7 @@ use Rattle.runner.specs.Image.{laneIn}
 use Rattle.runner.specs.Rows.{storing, storingIn, full}
 use Rattle.runner.specs.LutRows.{isSet, resultIn, answered, storedWord, storedSlot, Answers}
 use Rattle.runner.proofs.Lanes.{same-lanes}
-use Rattle.runner.proofs.Filled.{none-below, operand}
+use Rattle.runner.proofs.Filled.{none-below}
 
 -- ---- a row of floats that a loop fills: the first n are f's
 

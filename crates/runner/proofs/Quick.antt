@@ -4,7 +4,6 @@ use Prim.Native.Nat.{ℕ, zero, suc, _+_, _-_, _*_, _/_, _%_, _^_, _<_, _≤_}
 use native.Mathlib.Nat.{mod-eq-of-lt, div-lt-iff-lt-mul, suc-mul, one-mul}
 use lib.Pow.{suc-ones, shr-lt}
 use native.Mathlib.Numerals.{add-one}
-use native.Mathlib.Decide.{ℕ-discrete}
 use native.Mathlib.Omega.{arith}
 use mathlib.Core.Bool.{Bool, true, false, not, _&&_, _||_, false≢true}
 use mathlib.Core.List.{List, [], _∷_}
@@ -15,35 +14,11 @@ use borrow.Author.Tests.{eqb-true, lt-ltb, le-ltb, le-leb}
 use Rattle.lane.specs.declared.Insn.{Insn}
 use Rattle.lane.specs.Words.{pick, bit}
 use Rattle.lane.specs.Refusals.{immLimits, vbLimits, vcLimits, vdLimits, modAllowed, vbTied, opKnown, wideLoad, pass, fieldsGood, instructionAnswer, wellFormed, wellFormedBy}
+use Rattle.lane.proofs.Tables.{and-left, and-right, allBelow, below-all}
 use Rattle.lane.proofs.Cases.{pick-true, pick-false}
 use Rattle.runner.specs.Image.{laneIn, lanesGood}
 use Rattle.runner.proofs.Lanes.{split}
 use Rattle.runner.specs.Quick.{past, over, plainMods, overOf, modPlace, noneOver, plain}
-
--- ---- a table's rule, by computing it for every row
-
-abbrev allBelow : ℕ → (ℕ → Bool) → Bool
-allBelow zero f = true
-allBelow (suc n) f = allBelow n f && f n
-
-left : (a b : Bool) → (a && b) ≡ true → a ≡ true
-left true b h = refl
-left false b h = absurd (false≢true h)
-
-right : (a b : Bool) → (a && b) ≡ true → b ≡ true
-right true b h = h
-right false b h = absurd (false≢true h)
-
-below-all : (n : ℕ) (f : ℕ → Bool) (k : ℕ) → allBelow n f ≡ true → k < n → f k ≡ true
-below-all zero f k h l = absurd (none k l)
-  where
-    none : (k : ℕ) → k < 0 → ⊥
-    none k l = omega arith
-below-all (suc n) f k h l = go (ℕ-discrete k n) (λ m. below-all n f k (left (allBelow n f) (f n) h) m)
-  where
-    go : Dec (k ≡ n) → (k < n → f k ≡ true) → f k ≡ true
-    go (yes e) r = ap f e ∙ right (allBelow n f) (f n) h
-    go (no e) r = r (omega arith)
 
 -- ---- bits past a limit
 
@@ -109,10 +84,10 @@ field-fits : (limits widths : List ℕ) (k x : ℕ) → allBelow 16 (ones limits
 field-fits limits widths k x t l h e =
     let row = below-all 16 (ones limits widths) k t l in
     let w = getD widths k 0 in
-    let a = eqb-true (32 - w + w) 32 (left (eqb (32 - w + w) 32) _ row) in
-    let bc = right (eqb (32 - w + w) 32) _ row in
-    let b = eqb-true (past (getD limits k 0)) (2 ^ 32 - 2 ^ w) (left (eqb (past (getD limits k 0)) (2 ^ 32 - 2 ^ w)) _ bc) in
-    let c = eqb-true (getD limits k 0 + 1) (2 ^ w) (right (eqb (past (getD limits k 0)) (2 ^ 32 - 2 ^ w)) _ bc) in
+    let a = eqb-true (32 - w + w) 32 (and-left (eqb (32 - w + w) 32) _ row) in
+    let bc = and-right (eqb (32 - w + w) 32) _ row in
+    let b = eqb-true (past (getD limits k 0)) (2 ^ 32 - 2 ^ w) (and-left (eqb (past (getD limits k 0)) (2 ^ 32 - 2 ^ w)) _ bc) in
+    let c = eqb-true (getD limits k 0 + 1) (2 ^ w) (and-right (eqb (past (getD limits k 0)) (2 ^ 32 - 2 ^ w)) _ bc) in
     let x-fits = within-ones w (32 - w) x a h (sym (ap (λ (m : ℕ). bitAnd x m) b) ∙ e) in
     le-leb x (getD limits k 0) (omega (arith, c, x-fits))
 
@@ -147,13 +122,13 @@ allowed-is op vb m ho hm e = by (eqb vb 0) refl
         → ((ltb j 16 || (not (eqb op 8 || eqb op 9) || eqb (j % 16) 1)) ≡ true → vbTied op vb m ≡ true)
         → Allowed op vb m
     made j q h k =
-        let r = right (opKnown op) _ h in
-        let rr = right (modAllowed op (j % 16)) _ r in
+        let r = and-right (opKnown op) _ h in
+        let rr = and-right (modAllowed op (j % 16)) _ r in
         record {
-          known = left (opKnown op) _ h;
-          mods = sym (ap (λ (x : ℕ). modAllowed op x) q) ∙ left (modAllowed op (j % 16)) _ r;
-          narrow = sym (ap (λ (x : ℕ). not (wideLoad op x)) q) ∙ left (not (wideLoad op (j % 16))) _ rr;
-          tied = k (right (not (wideLoad op (j % 16))) _ rr);
+          known = and-left (opKnown op) _ h;
+          mods = sym (ap (λ (x : ℕ). modAllowed op x) q) ∙ and-left (modAllowed op (j % 16)) _ r;
+          narrow = sym (ap (λ (x : ℕ). not (wideLoad op x)) q) ∙ and-left (not (wideLoad op (j % 16))) _ rr;
+          tied = k (and-right (not (wideLoad op (j % 16))) _ rr);
         }
 
     by : (t : Bool) → eqb vb 0 ≡ t → Allowed op vb m
@@ -200,7 +175,7 @@ facts-good i a p q r t =
 pub plain-good : (i : Insn) → Words32 i → plain i ≡ true → 0 ≡ instructionAnswer true i
 unfolding noneOver overOf over
 plain-good i h e =
-    let z = eqb-true _ 0 (left (noneOver (overOf (i .op % 16)) i) (bit (overOf (i .op % 16) .mods) (modPlace (i .md) (i .vb))) e) in
+    let z = eqb-true _ 0 (and-left (noneOver (overOf (i .op % 16)) i) (bit (overOf (i .op % 16) .mods) (modPlace (i .md) (i .vb))) e) in
     let p = no-or _ _ z in
     let q = no-or _ _ (p .0) in
     let l = no-pair (i .imm) (past (getD immLimits (i .op % 16) 0)) (i .op) (past 15) (h .op) (past-lt 15) (q .0) in
@@ -214,7 +189,7 @@ plain-good i h e =
     facts-good i
     (allowed-is (i .op) (i .vb) (i .md) op16 md16
     (sym (ap (λ (x : ℕ). bit (getD plainMods x 0) (pick (eqb (i .vb) 0) (i .md) (i .md + 16))) ko)
-    ∙ sym (ap (λ (x : ℕ). bit (getD plainMods (i .op % 16) 0) (pick (eqb (i .vb) 0) x (x + 16))) km) ∙ right (noneOver (overOf (i .op % 16)) i) (bit (overOf (i .op % 16) .mods) (modPlace (i .md) (i .vb))) e))
+    ∙ sym (ap (λ (x : ℕ). bit (getD plainMods (i .op % 16) 0) (pick (eqb (i .vb) 0) x (x + 16))) km) ∙ and-right (noneOver (overOf (i .op % 16)) i) (bit (overOf (i .op % 16) .mods) (modPlace (i .md) (i .vb))) e))
     (sym (ap (λ (x : ℕ). leb (i .imm) (getD immLimits x 0)) ko) ∙ field-fits immLimits immWidths (i .op % 16) (i .imm) refl k16 (h .imm) (l .0))
     (sym (ap (λ (x : ℕ). leb (i .vb) (getD vbLimits x 0)) ko) ∙ field-fits vbLimits vbWidths (i .op % 16) (i .vb) refl k16 (h .vb) (m .1))
     (sym (ap (λ (x : ℕ). leb (i .vc) (getD vcLimits x 0)) ko) ∙ field-fits vcLimits vcWidths (i .op % 16) (i .vc) refl k16 (h .vc) (m .0))

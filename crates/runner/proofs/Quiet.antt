@@ -3,7 +3,7 @@ use mathlib.Core.Path.{_≡_, refl}
 use Prim.Native.Nat.{ℕ, _+_, _-_, _<_, _≤_}
 use native.Mathlib.Nat.{lt-of-lt-of-le}
 use native.Mathlib.Omega.{arith}
-use mathlib.Core.Bool.{Bool, true, false, _&&_, false≢true}
+use mathlib.Core.Bool.{Bool, true, false, _&&_}
 use mathlib.Core.List.{[], _∷_, _++_}
 use lib.Ieee.{Float}
 use lib.Dec.{ltb, eqb}
@@ -16,6 +16,7 @@ use Rattle.lane.specs.Swap.{acts, below, plainSwap, indexSwap, indexOf, swapWit
 use Rattle.lane.specs.Lut.{lutAnswer, lutStores, lutWith, lut, lutRegister}
 use Rattle.lane.specs.Config.{highStore, configStore, configWith, config, passedOver}
 use Rattle.lane.specs.Compute.{computes, wordOnly, valuedWith, valued}
+use Rattle.lane.proofs.Tables.{and-left, and-right}
 use Rattle.runner.proofs.Enabled.{Quiet}
 
 quiet-register : (r w : ℕ) → r < 8 → Quiet ((r, w) ∷ [])
@@ -32,14 +33,6 @@ quiet-when t a h = quiet-test t a [] h (λ e. tt)
 quiet-append : (a b : Stores) → Quiet a → Quiet b → Quiet (a ++ b)
 quiet-append [] b h k = k
 quiet-append (s ∷ a) b h k = (h .0, quiet-append a b (h .1) k)
-
-and-left : (a b : Bool) → (a && b) ≡ true → a ≡ true
-and-left true b h = refl
-and-left false b h = absurd (false≢true h)
-
-and-right : (a b : Bool) → (a && b) ≡ true → b ≡ true
-and-right true b h = h
-and-right false b h = absurd (false≢true h)
 
 vd-below : (vd n : ℕ) (b : Bool) → (ltb vd n && b) ≡ true → vd < n
 vd-below vd n b e = ltb-true vd n (and-left (ltb vd n) b e)

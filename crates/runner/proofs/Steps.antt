@@ -3,7 +3,7 @@ use mathlib.Core.Path.{_≡_, refl, sym, ap, _∙_}
 use Prim.Native.Nat.{ℕ, zero, suc, _+_, _/_, _%_, _≤_}
 use native.Mathlib.Numerals.{add-one}
 use native.Mathlib.Omega.{arith}
-use mathlib.Core.Bool.{Bool, true, false, _&&_, false≢true}
+use mathlib.Core.Bool.{Bool, true, false, _&&_}
 use mathlib.Core.List.{List, []}
 use lib.ListN.{length}
 use lib.Dec.{eqb, leb}
@@ -15,6 +15,7 @@ use Rattle.lane.specs.Load.{address, stride, nextCursor, load}
 use Rattle.lane.specs.Compute.{valueWord, valuedWith, valued}
 use Rattle.lane.specs.Rule.{lanewise, storesOf}
 use Rattle.lane.specs.Refusals.{settingsGood}
+use Rattle.lane.proofs.Tables.{and-left, and-right}
 use Rattle.lane.proofs.Cases.{pick-true, pick-false}
 use Rattle.runner.specs.declared.Found.{Found}
 use Rattle.runner.specs.declared.Outcome.{Outcome}
@@ -103,15 +104,7 @@ load-left s i cursor a next image dst x go o ea en g p =
 
 -- one instruction over an image and a Dst of any length
 pub both-sized : (a b : ℕ) → (eqb a 768 && eqb b 16384) ≡ true → (a ≡ 768) × (b ≡ 16384)
-both-sized a b h = (eqb-true a 768 (left (eqb a 768) (eqb b 16384) h), eqb-true b 16384 (right (eqb a 768) (eqb b 16384) h))
-  where
-    left : (p q : Bool) → (p && q) ≡ true → p ≡ true
-    left true q h = refl
-    left false q h = absurd (false≢true h)
-
-    right : (p q : Bool) → (p && q) ≡ true → q ≡ true
-    right true q h = h
-    right false q h = absurd (false≢true h)
+both-sized a b h = (eqb-true a 768 (and-left (eqb a 768) (eqb b 16384) h), eqb-true b 16384 (and-right (eqb a 768) (eqb b 16384) h))
 
 pub step-sized : (s : Settings) (i : Insn) (cursor : ℕ) (image dst x : List ℕ) → (eqb (length image) 768 && eqb (length dst) 16384) ≡ true
     → x ≡ imageAfter s i cursor image dst → x ≡ stepImage s i cursor image dst

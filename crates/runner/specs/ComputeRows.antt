@@ -20,10 +20,11 @@ withMod i m = record { op = i .op; imm = i .imm; vb = i .vb; vc = i .vc; vd = i 
 unfoldable pub lzLimit : ℕ → ℕ
 lzLimit m = 0xFFFFFFFF - m / 4 % 2 * 0x80000000
 
--- The zeros that are counted: those of the operand with its lowest digit set, one fewer than its own if it is zero, and else as many.
+-- The zeros that are counted, the operand's lowest digit taken as set: one fewer than its own if it is zero, and else as many.
 unfoldable pub lzCount : ℕ → ℕ → ℕ
 lzCount m c = leadingZeros 32 (bitOr (lzOperand m c) 1)
 
+-- LZ's word, from that count.
 unfoldable pub lzFrom : ℕ → ℕ → ℕ → ℕ
 lzFrom m count c = (count + pick (eqb (lzOperand m c) 0) 1 0) % 2 ^ 32
 

@@ -32,7 +32,8 @@ fn lz_limit(m: u32) -> u32
     0xFFFF_FFFF - m / 4 % 2 * 0x8000_0000
 }
 
-// The zeros that LZ counts, 31 for none and for one digit: of a word that is not zero a processor counts them in one instruction.
+// The zeros that LZ counts, the lowest digit taken as set, so that the word 0 has 31: of a word that is not zero a processor counts them in one
+// instruction.
 fn lz_count(limit: u32, c: u32) -> u32
     ensures { λ r. ⌜ ((m : ℕ) → limit ≡ Compute.lzLimit m → r ≡ Compute.lzCount m c) ⌝ }
 {
@@ -69,7 +70,7 @@ fn word_put(image: &mut [u32], n: usize, op: u32, i: Insn, b: u32, c: u32, mask:
 }
 
 fn word_rows(image: &mut [u32], op: u32, i: Insn, b: &[u32; 32], c: &[u32; 32], go: &[u32; 128])
-    requires { ⌜ (length (now image) ≡ 768) × ((Rows.Enabled (now go) (now image)) × (i .vd < 8)) ⌝ }
+    requires { ⌜ (length (now image) ≡ 768) × (Rows.Enabled (now go) (now image) × (i .vd < 8)) ⌝ }
     ensures { λ _. ⌜ now (image .exit) ≡ Rows.storing (now (image .entry)) (λ L. Compute.wordWith op i (getD (now (b .entry)) L 0) (getD (now (c .entry)) L 0) (laneIn (now (image .entry)) L)) ⌝ }
 {
     let mut n: usize = 0;
@@ -122,8 +123,8 @@ fn flagged_rows(
     c: &[u32; 32],
     go: &mut [u32; 128],
 )
-    requires { ⌜ (length (now image) ≡ 768) × ((Rows.Enabled (now go) (now image)) × (i .vd < 8)) ⌝ }
-    ensures { λ _. ⌜ (now (image .exit) ≡ Rows.storing (now (image .entry)) (λ L. Compute.flaggedWith op i sets (getD (now (b .entry)) L 0) (getD (now (c .entry)) L 0) (laneIn (now (image .entry)) L))) × (Rows.Enabled (now (go .exit)) (now (image .exit))) ⌝ }
+    requires { ⌜ (length (now image) ≡ 768) × (Rows.Enabled (now go) (now image) × (i .vd < 8)) ⌝ }
+    ensures { λ _. ⌜ (now (image .exit) ≡ Rows.storing (now (image .entry)) (λ L. Compute.flaggedWith op i sets (getD (now (b .entry)) L 0) (getD (now (c .entry)) L 0) (laneIn (now (image .entry)) L))) × Rows.Enabled (now (go .exit)) (now (image .exit)) ⌝ }
 {
     let mut n: usize = 0;
     while n < 32 {
@@ -163,7 +164,7 @@ fn with_mod(i: Insn, m: u32) -> Insn
 // ABS, AND, OR, XOR, NOT or EXMAN over all lanes. AND and OR are of vb and vc with mod 0 too, vd then standing for vb; in the others mod is odd or even.
 // So mod is a constant in every loop.
 pub(crate) fn valued(image: &mut [u32], op: u32, i: Insn, go: &[u32; 128], fixed: &[u32; 128])
-    requires { ⌜ (length (now image) ≡ 768) × ((Rows.Enabled (now go) (now image)) × ((now fixed ≡ Rows.fixedRows) × (Compute.setsFlags op ≡ false))) ⌝ }
+    requires { ⌜ (length (now image) ≡ 768) × (Rows.Enabled (now go) (now image) × ((now fixed ≡ Rows.fixedRows) × (Compute.setsFlags op ≡ false))) ⌝ }
     ensures { λ _. ⌜ now (image .exit) ≡ Rows.storing (now (image .entry)) (λ L. Rules.valued op i L (laneIn (now (image .entry)) L)) ⌝ }
 {
     if i.vd < 8 {
@@ -189,8 +190,8 @@ fn touches(sets: bool, m: u32) -> bool
 
 // IADD over all lanes.
 pub(crate) fn iadd(image: &mut [u32], i: Insn, go: &mut [u32; 128], fixed: &[u32; 128])
-    requires { ⌜ (length (now image) ≡ 768) × ((Rows.Enabled (now go) (now image)) × (now fixed ≡ Rows.fixedRows)) ⌝ }
-    ensures { λ _. ⌜ (now (image .exit) ≡ Rows.storing (now (image .entry)) (λ L. Rules.iadd i L (laneIn (now (image .entry)) L))) × (Rows.Enabled (now (go .exit)) (now (image .exit))) ⌝ }
+    requires { ⌜ (length (now image) ≡ 768) × (Rows.Enabled (now go) (now image) × (now fixed ≡ Rows.fixedRows)) ⌝ }
+    ensures { λ _. ⌜ (now (image .exit) ≡ Rows.storing (now (image .entry)) (λ L. Rules.iadd i L (laneIn (now (image .entry)) L))) × Rows.Enabled (now (go .exit)) (now (image .exit)) ⌝ }
 {
     if i.vd < 8 {
         let c = source(image, fixed, i.vc);
@@ -205,8 +206,8 @@ pub(crate) fn iadd(image: &mut [u32], i: Insn, go: &mut [u32; 128], fixed: &[u32
 
 // LZ over all lanes.
 pub(crate) fn lz(image: &mut [u32], i: Insn, go: &mut [u32; 128], fixed: &[u32; 128])
-    requires { ⌜ (length (now image) ≡ 768) × ((Rows.Enabled (now go) (now image)) × (now fixed ≡ Rows.fixedRows)) ⌝ }
-    ensures { λ _. ⌜ (now (image .exit) ≡ Rows.storing (now (image .entry)) (λ L. Rules.lz i L (laneIn (now (image .entry)) L))) × (Rows.Enabled (now (go .exit)) (now (image .exit))) ⌝ }
+    requires { ⌜ (length (now image) ≡ 768) × (Rows.Enabled (now go) (now image) × (now fixed ≡ Rows.fixedRows)) ⌝ }
+    ensures { λ _. ⌜ (now (image .exit) ≡ Rows.storing (now (image .entry)) (λ L. Rules.lz i L (laneIn (now (image .entry)) L))) × Rows.Enabled (now (go .exit)) (now (image .exit)) ⌝ }
 {
     if i.vd < 8 {
         let c = source(image, fixed, i.vc);
@@ -222,8 +223,8 @@ pub(crate) fn lz(image: &mut [u32], i: Insn, go: &mut [u32; 128], fixed: &[u32; 
 
 // EXEXP over all lanes.
 pub(crate) fn exexp(image: &mut [u32], i: Insn, go: &mut [u32; 128], fixed: &[u32; 128])
-    requires { ⌜ (length (now image) ≡ 768) × ((Rows.Enabled (now go) (now image)) × (now fixed ≡ Rows.fixedRows)) ⌝ }
-    ensures { λ _. ⌜ (now (image .exit) ≡ Rows.storing (now (image .entry)) (λ L. Rules.exexp i L (laneIn (now (image .entry)) L))) × (Rows.Enabled (now (go .exit)) (now (image .exit))) ⌝ }
+    requires { ⌜ (length (now image) ≡ 768) × (Rows.Enabled (now go) (now image) × (now fixed ≡ Rows.fixedRows)) ⌝ }
+    ensures { λ _. ⌜ (now (image .exit) ≡ Rows.storing (now (image .entry)) (λ L. Rules.exexp i L (laneIn (now (image .entry)) L))) × Rows.Enabled (now (go .exit)) (now (image .exit)) ⌝ }
 {
     if i.vd < 8 {
         let c = source(image, fixed, i.vc);

@@ -71,7 +71,7 @@ fn cells(dst: &[u16], at: usize, odds: &[u32; 32]) -> [u32; 32]
 
 // The masks of the lanes that LOAD stores in: enabled, and not held back by bit 1 of LaneConfig.
 fn open_row(image: &[u32], go: &[u32; 128]) -> [u32; 32]
-    requires { ⌜ (length (now image) ≡ 768) × (Rows.Enabled (now go) (now image)) ⌝ }
+    requires { ⌜ (length (now image) ≡ 768) × Rows.Enabled (now go) (now image) ⌝ }
     ensures { λ x. ⌜ x ≡ LoadRows.openIn (now (image .entry)) ⌝ }
 {
     let mut opens = [0u32; 32];
@@ -132,7 +132,7 @@ fn capture_rows(image: &mut [u32], vd: usize, first: u32, odds: &[u32; 32], open
 
 // LOAD with mod `m` at address `a`, vd being below 8.
 fn load_words(image: &mut [u32], dst: &[u16], a: u16, vd: usize, m: u32, go: &[u32; 128])
-    requires { ⌜ (length (now image) ≡ 768) × ((Rows.Enabled (now go) (now image)) × ((length (now dst) ≡ 16384) × ((a < 1024) × (vd < 8)))) ⌝ }
+    requires { ⌜ (length (now image) ≡ 768) × (Rows.Enabled (now go) (now image) × ((length (now dst) ≡ 16384) × ((a < 1024) × (vd < 8)))) ⌝ }
     ensures { λ _. ⌜ now (image .exit) ≡ Rows.storing (now (image .entry)) (λ L. LoadRows.loadedAt (now (image .entry)) (now (dst .entry)) a vd m L) ⌝ }
 {
     let odds = odd_row(image, a);
@@ -147,7 +147,7 @@ fn load_words(image: &mut [u32], dst: &[u16], a: u16, vd: usize, m: u32, go: &[u
 
 // LOAD over all lanes, at address `a`.
 pub(crate) fn load(image: &mut [u32], dst: &[u16], srcb: u32, a: u16, i: Insn, go: &[u32; 128])
-    requires { ⌜ (length (now image) ≡ 768) × ((Rows.Enabled (now go) (now image)) × ((length (now dst) ≡ 16384) × (a < 1024))) ⌝ }
+    requires { ⌜ (length (now image) ≡ 768) × (Rows.Enabled (now go) (now image) × ((length (now dst) ≡ 16384) × (a < 1024))) ⌝ }
     ensures { λ _. ⌜ now (image .exit) ≡ Rows.storing (now (image .entry)) (λ L. Rules.load srcb a i L (bit (laneIn (now (image .entry)) (L % 8) 12) 5) (evenCell (now (dst .entry)) a L) (oddCell (now (dst .entry)) a L) (laneIn (now (image .entry)) L)) ⌝ }
 {
     if i.vd < 8 {
@@ -157,7 +157,7 @@ pub(crate) fn load(image: &mut [u32], dst: &[u16], srcb: u32, a: u16, i: Insn, g
 
 // LOADI's words, vd being below 8.
 fn loadi_rows(image: &mut [u32], i: Insn, go: &[u32; 128])
-    requires { ⌜ (length (now image) ≡ 768) × ((Rows.Enabled (now go) (now image)) × (i .vd < 8)) ⌝ }
+    requires { ⌜ (length (now image) ≡ 768) × (Rows.Enabled (now go) (now image) × (i .vd < 8)) ⌝ }
     ensures { λ _. ⌜ now (image .exit) ≡ Rows.storing (now (image .entry)) (λ L. Rules.loadi i (laneIn (now (image .entry)) L)) ⌝ }
 {
     let vd = i.vd as usize;
@@ -171,7 +171,7 @@ fn loadi_rows(image: &mut [u32], i: Insn, go: &[u32; 128])
 
 // LOADI over all lanes.
 pub(crate) fn loadi(image: &mut [u32], i: Insn, go: &[u32; 128])
-    requires { ⌜ (length (now image) ≡ 768) × (Rows.Enabled (now go) (now image)) ⌝ }
+    requires { ⌜ (length (now image) ≡ 768) × Rows.Enabled (now go) (now image) ⌝ }
     ensures { λ _. ⌜ now (image .exit) ≡ Rows.storing (now (image .entry)) (λ L. Rules.loadi i (laneIn (now (image .entry)) L)) ⌝ }
 {
     if i.vd < 8 {

@@ -135,7 +135,7 @@ fn answer_words(
     x: &[f32; 32],
     go: &[u32; 128],
 ) -> [u32; 64]
-    requires { ⌜ (length (now image) ≡ 768) × (Rows.Enabled (now go) (now image)) ⌝ }
+    requires { ⌜ (length (now image) ≡ 768) × Rows.Enabled (now go) (now image) ⌝ }
     ensures { λ y. ⌜ LutRows.Answers (λ L. LutRows.answered (i .md) (getD (now (r3 .entry)) L 0) (Swap.acts (i .vd) (laneIn (now (image .entry)) L)) (laneIn (now (image .entry)) L 7 % 16) (getD (now (x .entry)) L nan)) (λ L. getD (now (r0 .entry)) L 0) 32 y ⌝ }
 {
     let mut words = [0u32; 64];
@@ -166,7 +166,7 @@ fn scatter(image: &mut [u32], words: &[u32; 64])
 
 // LUT to the register that register 7 names.
 fn lut_named(image: &mut [u32], i: Insn, go: &[u32; 128], x: &[f32; 32])
-    requires { ⌜ (length (now image) ≡ 768) × ((Rows.Enabled (now go) (now image)) × (LutRows.Numbers (λ L. LutRows.resultIn (laneIn (now image) L)) (now x) × (has (i .md) 8 ≡ true))) ⌝ }
+    requires { ⌜ (length (now image) ≡ 768) × (Rows.Enabled (now go) (now image) × (LutRows.Numbers (λ L. LutRows.resultIn (laneIn (now image) L)) (now x) × (has (i .md) 8 ≡ true))) ⌝ }
     ensures { λ _. ⌜ now (image .exit) ≡ Rows.storing (now (image .entry)) (λ L. Rules.lut i (laneIn (now (image .entry)) L)) ⌝ }
 {
     let r3 = slot_row(image, 3);
@@ -177,7 +177,7 @@ fn lut_named(image: &mut [u32], i: Insn, go: &[u32; 128], x: &[f32; 32])
 
 // LUT to vd, where that is stored.
 fn lut_direct(image: &mut [u32], i: Insn, go: &[u32; 128], x: &[f32; 32])
-    requires { ⌜ (length (now image) ≡ 768) × ((Rows.Enabled (now go) (now image)) × (LutRows.Numbers (λ L. LutRows.resultIn (laneIn (now image) L)) (now x) × ((has (i .md) 8 ≡ false) × (i .vd < 8)))) ⌝ }
+    requires { ⌜ (length (now image) ≡ 768) × (Rows.Enabled (now go) (now image) × (LutRows.Numbers (λ L. LutRows.resultIn (laneIn (now image) L)) (now x) × ((has (i .md) 8 ≡ false) × (i .vd < 8)))) ⌝ }
     ensures { λ _. ⌜ now (image .exit) ≡ Rows.storing (now (image .entry)) (λ L. Rules.lut i (laneIn (now (image .entry)) L)) ⌝ }
 {
     let r3 = slot_row(image, 3);
@@ -187,7 +187,7 @@ fn lut_direct(image: &mut [u32], i: Insn, go: &[u32; 128], x: &[f32; 32])
 
 // LUT over all lanes.
 pub(crate) fn lut(image: &mut [u32], i: Insn, go: &[u32; 128])
-    requires { ⌜ (length (now image) ≡ 768) × (Rows.Enabled (now go) (now image)) ⌝ }
+    requires { ⌜ (length (now image) ≡ 768) × Rows.Enabled (now go) (now image) ⌝ }
     ensures { λ _. ⌜ now (image .exit) ≡ Rows.storing (now (image .entry)) (λ L. Rules.lut i (laneIn (now (image .entry)) L)) ⌝ }
 {
     let named = i.md / 8 % 2 == 1;

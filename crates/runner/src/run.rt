@@ -28,7 +28,7 @@ ghost use Rattle.runner.specs.StepRows as Steps;
 // Any instruction but LOAD, in every lane. `go` are the run's rows of masks, `fixed` the rows of the registers never stored. The op is a constant
 // where one function serves several.
 fn step_stored(s: Settings, i: Insn, image: &mut [u32], go: &mut [u32; 128], fixed: &[u32; 128])
-    requires { ⌜ (length (now image) ≡ 768) × ((Rows.Enabled (now go) (now image)) × ((now fixed ≡ Rows.fixedRows) × (i .op ≡ 1 → ⊥))) ⌝ }
+    requires { ⌜ (length (now image) ≡ 768) × (Rows.Enabled (now go) (now image) × ((now fixed ≡ Rows.fixedRows) × (i .op ≡ 1 → ⊥))) ⌝ }
     ensures { λ _. ⌜ Steps.Stored s i (now (image .entry)) (now (image .exit)) (now (go .exit)) ⌝ }
 {
     let op = i.op;
@@ -60,7 +60,7 @@ fn step_lanes(
     go: &mut [u32; 128],
     fixed: &[u32; 128],
 ) -> u32
-    requires { ⌜ (length (now image) ≡ 768) × ((length (now dst) ≡ 16384) × ((Rows.Enabled (now go) (now image)) × (now fixed ≡ Rows.fixedRows))) ⌝ }
+    requires { ⌜ (length (now image) ≡ 768) × ((length (now dst) ≡ 16384) × (Rows.Enabled (now go) (now image) × (now fixed ≡ Rows.fixedRows))) ⌝ }
     ensures { λ r. ⌜ Steps.Left s i cursor (now (image .entry)) (now (dst .entry)) r (now (image .exit)) (now (go .exit)) ⌝ }
 {
     if i.op == 1 {
