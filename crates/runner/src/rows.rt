@@ -8,7 +8,7 @@ use lane::words::keep;
 ghost use mathlib.Core.Path.{_≡_};
 ghost use mathlib.Core.Bool.{Bool};
 ghost use mathlib.Core.List.{[], _∷_};
-ghost use Prim.Native.Nat.{ℕ, _+_, _<_, _≤_};
+ghost use Prim.Native.Nat.{ℕ, _+_, _*_, _<_, _≤_};
 ghost use lib.ListN.{length, getD};
 ghost use Rattle.lane.specs.Words.{pick, reg, isStored, slotOf};
 ghost use Rattle.runner.specs.Image as Image;
@@ -28,12 +28,20 @@ pub(crate) fn masked(mask: u32, new: u32, old: u32) -> u32
     old ^ ((old ^ new) & mask)
 }
 
+// Where the word of a slot in lane `n` lies.
+fn place(slot: usize, n: usize) -> usize
+    requires { ⌜ (slot < 24) × (n < 32) ⌝ }
+    ensures { λ r. ⌜ r ≡ 32 * slot + n ⌝ }
+{
+    32 * slot + n
+}
+
 // The word of a slot in lane `n`.
 pub(crate) fn word_at(image: &[u32], slot: usize, n: usize) -> u32
     requires { ⌜ (length (now image) ≡ 768) × ((slot < 24) × (n < 32)) ⌝ }
     ensures { λ r. ⌜ r ≡ Image.laneIn (now (image .entry)) n slot ⌝ }
 {
-    let at = 32 * slot + n;
+    let at = place(slot, n);
     image[at]
 }
 
@@ -42,7 +50,7 @@ pub(crate) fn put(image: &mut [u32], slot: usize, n: usize, mask: u32, word: u32
     requires { ⌜ (length (now image) ≡ 768) × ((slot < 24) × (n < 32)) ⌝ }
     ensures { λ _. ⌜ ((t : Bool) → mask ≡ Rows.full t → now (image .exit) ≡ Rows.storingIn (now (image .entry)) n (pick t ((slot, word) ∷ []) [])) ⌝ }
 {
-    let at = 32 * slot + n;
+    let at = place(slot, n);
     image[at] = masked(mask, word, image[at]);
 }
 
@@ -65,7 +73,7 @@ pub(crate) fn slot_row(image: &[u32], slot: usize) -> [u32; 32]
     requires { ⌜ (length (now image) ≡ 768) × (slot < 24) ⌝ }
     ensures { λ x. ⌜ x ≡ Rows.row (λ L. Image.laneIn (now (image .entry)) L slot) ⌝ }
 {
-    copied(image, 32 * slot)
+    copied(image, place(slot, 0))
 }
 
 // The masks of the lanes that are enabled, in the first of a run's four rows of masks: the three operations that set flags keep it up. The other three
