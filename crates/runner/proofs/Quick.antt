@@ -172,6 +172,15 @@ facts-good i a p q r t =
     both : (a b : Bool) → a ≡ true → b ≡ true → (a && b) ≡ true
     both a b h k = ap (λ (x : Bool). x && b) h ∙ k
 
+-- a mod below 16 is where the table has it
+place-is : (m vb : ℕ) → m < 16 → pick (eqb vb 0) m (m + 16) ≡ modPlace m vb
+unfolding pick
+place-is m vb h = by (eqb vb 0)
+  where
+    by : (t : Bool) → pick t m (m + 16) ≡ (m % 32 + pick t 0 16) % 32
+    by true = omega arith
+    by false = omega arith
+
 pub plain-good : (i : Insn) → Words32 i → plain i ≡ true → 0 ≡ instructionAnswer true i
 unfolding noneOver overOf over
 plain-good i h e =
@@ -185,11 +194,10 @@ plain-good i h e =
     let md16 : i .md < 16 = within-ones 4 28 (i .md) refl (h .md) (r .0) in
     let k16 : i .op % 16 < 16 = omega arith in
     let ko : i .op % 16 ≡ i .op = omega arith in
-    let km : i .md % 16 ≡ i .md = omega arith in
     facts-good i
     (allowed-is (i .op) (i .vb) (i .md) op16 md16
     (sym (ap (λ (x : ℕ). bit (getD plainMods x 0) (pick (eqb (i .vb) 0) (i .md) (i .md + 16))) ko)
-    ∙ sym (ap (λ (x : ℕ). bit (getD plainMods (i .op % 16) 0) (pick (eqb (i .vb) 0) x (x + 16))) km) ∙ and-right (noneOver (overOf (i .op % 16)) i) (bit (overOf (i .op % 16) .mods) (modPlace (i .md) (i .vb))) e))
+    ∙ ap (λ (x : ℕ). bit (getD plainMods (i .op % 16) 0) x) (place-is (i .md) (i .vb) md16) ∙ and-right (noneOver (overOf (i .op % 16)) i) (bit (overOf (i .op % 16) .mods) (modPlace (i .md) (i .vb))) e))
     (sym (ap (λ (x : ℕ). leb (i .imm) (getD immLimits x 0)) ko) ∙ field-fits immLimits immWidths (i .op % 16) (i .imm) refl k16 (h .imm) (l .0))
     (sym (ap (λ (x : ℕ). leb (i .vb) (getD vbLimits x 0)) ko) ∙ field-fits vbLimits vbWidths (i .op % 16) (i .vb) refl k16 (h .vb) (m .1))
     (sym (ap (λ (x : ℕ). leb (i .vc) (getD vcLimits x 0)) ko) ∙ field-fits vcLimits vcWidths (i .op % 16) (i .vc) refl k16 (h .vc) (m .0))

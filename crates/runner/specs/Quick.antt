@@ -34,7 +34,7 @@ unfoldable pub overOf : ℕ → Over
 overOf k = over (getD immLimits k 0) (getD vbLimits k 0) (getD vcLimits k 0) (getD vdLimits k 0) (getD plainMods k 0)
 
 abbrev pub modPlace : ℕ → ℕ → ℕ
-modPlace m vb = pick (eqb vb 0) (m % 16) (m % 16 + 16)
+modPlace m vb = (m % 32 + pick (eqb vb 0) 0 16) % 32
 
 -- No field has a bit too many,
 unfoldable pub noneOver : Over → Insn → Bool

@@ -11,6 +11,7 @@ use lane::words::LANE_CONFIG;
 use lane::words::LANE_FLAG;
 use lane::words::MISC;
 use lane::words::USE_FLAG;
+use lane::words::keep;
 ghost use mathlib.Core.Path.{_≡_};
 ghost use mathlib.Core.Bool.{true};
 ghost use Prim.Native.Nat.{_%_, _<_, _≤_};
@@ -93,11 +94,11 @@ fn over_of(op: u32) -> Over
     }
 }
 
-// Where that table has a mod.
+// Where that table has a mod, which is below 16 where no field is over.
 fn mod_place(m: u32, vb: u32) -> u32
     ensures { λ r. ⌜ (r < 32) × (r ≡ Quick.modPlace m vb) ⌝ }
 {
-    if vb == 0 { m % 16 } else { m % 16 + 16 }
+    (m % 32 + keep(vb == 0, 0, 16)) % 32
 }
 
 // Whether an instruction is plainly good.
