@@ -22,7 +22,7 @@ use Rattle.runner.specs.Quick.{past, over, plainMods, overOf, modPlace, 
 
 -- ---- bits past a limit
 
-no-or : (a b : ℕ) → bitOr a b ≡ 0 → (a ≡ 0) × (b ≡ 0)
+pub no-or : (a b : ℕ) → bitOr a b ≡ 0 → (a ≡ 0) × (b ≡ 0)
 no-or a b e = (omega (arith, or-add-and a b, and-le-l a b, and-le-r a b), omega (arith, or-add-and a b, and-le-l a b, and-le-r a b))
 
 no-pair : (a b r s : ℕ) → r < 2 ^ 32 → s < 2 ^ 32 → bitAnd (r + a * 2 ^ 32) (s + b * 2 ^ 32) ≡ 0 → (bitAnd a b ≡ 0) × (bitAnd r s ≡ 0)

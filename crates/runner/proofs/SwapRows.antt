@@ -5,11 +5,11 @@ use Prim.Native.Nat.{ℕ, _+_, _-_, _*_, _/_, _%_, _^_, _<_, _≤_}
 use native.Mathlib.Nat.{zero-add}
 use native.Mathlib.Omega.{arith}
 use native.Mathlib.Decide.{ℕ-discrete}
-use mathlib.Core.Bool.{Bool, true, false, not, Bool·beq, _&&_, _||_}
+use mathlib.Core.Bool.{Bool, true, false, not, Bool·beq, _&&_, _||_, false≢true}
 use mathlib.Core.List.{List, [], _∷_, _++_, append-assoc}
 use lib.ListN.{length, getD, set, length-set}
-use lib.Seq.{getD-set-other}
-use lib.Bits.{bitAnd, bitXor, and-mask, xor-add-and, xor-shifted, xor-block, xor-zero-r, xor-comm}
+use lib.Seq.{getD-set-same, getD-set-other}
+use lib.Bits.{bitAnd, bitOr, bitXor, and-mask, xor-add-and, xor-shifted, xor-block, xor-zero-r, xor-comm}
 use lib.Dec.{eqb, ltb, leb}
 use borrow.Author.Tests.{lt-ltb, le-ltb, le-leb, lt-leb, eq-eqb, ne-eqb}
 use Rattle.lane.specs.declared.Insn.{Insn}
@@ -17,13 +17,15 @@ use Rattle.lane.specs.Words.{pick, bit, Lane, Stores, reg, upd, after, enabled}
 use Rattle.lane.specs.Swap.{rank, ranksBelow, below, plainSwap, indexSwap, indexOf, swapWith, swap, maskOf, swaps}
 use Rattle.lane.proofs.Cases.{pick-true, pick-false}
 use Rattle.lane.proofs.Ranks.{swaps-is}
+use Rattle.lane.proofs.Tables.{and-left}
 use Rattle.lane.proofs.Stores.{length-build, getD-build, upd-same, upd-other, after-append}
 use Rattle.runner.specs.Image.{laneIn}
 use Rattle.runner.specs.Rows.{storing, storingIn, row, full, Enabled}
-use Rattle.runner.specs.SwapRows.{key, swapsBy, part, maskRows, marked, Masks, storedUnder, exchanged, masksAt, storedTo, storedBoth}
+use Rattle.runner.specs.SwapRows.{key, swapsBy, part, maskRows, marked, Masks, NoIndex, storedUnder, exchanged, masksAt, storedTo, storedBoth}
 use Rattle.runner.proofs.Lanes.{split, same-lanes, own-lanes, storing-same, storing-then, lane-storing, storing-none, in-then}
-use Rattle.runner.proofs.Filled.{Spread, spread-start, put-holds, operand}
+use Rattle.runner.proofs.Filled.{Spread, none-below, spread-start, put-holds, operand}
 use Rattle.runner.proofs.Enabled.{quiet-enabled}
+use Rattle.runner.proofs.Quick.{no-or}
 use Rattle.runner.proofs.Quiet.{quiet-swap}
 use Rattle.runner.proofs.Operands.{reg-low}
 
@@ -195,6 +197,30 @@ still-enabled image t T ix e =
       size = ap length e ∙ length-build 128 _;
       mask-is = λ k l. mask-at (λ L. enabled (laneIn image L)) T ix t e k (omega arith) ∙ sym (mask-in (λ L. enabled (laneIn image L)) T ix 0 k k l (omega arith));
     }
+
+-- where the union of the last row is 0 after n turns, so is each of its words
+pub record NoneSeen (seen n : ℕ) (words : List ℕ) : Type 0 where
+  pub zeros : seen ≡ 0 → (k : ℕ) → k < n → getD words (96 + k) 0 ≡ 0
+
+pub none-start : (words : List ℕ) → NoneSeen 0 0 words
+none-start words = record { zeros = λ e k l. absurd (none-below k l) }
+
+pub none-more : (seen n : ℕ) (words : List ℕ) (a b c : ℕ) → n < 32 → length words ≡ 128 → NoneSeen seen n words
+    → NoneSeen (bitOr seen c) (n + 1) (set (set (set words (32 + n) a) (64 + n) b) (96 + n) c)
+none-more seen n words a b c l e h = record { zeros = λ z k m. by k m (no-or seen c z) (ℕ-discrete k n) }
+  where
+    by : (k : ℕ) → k < n + 1 → (seen ≡ 0) × (c ≡ 0) → Dec (k ≡ n) → getD (set (set (set words (32 + n) a) (64 + n) b) (96 + n) c) (96 + k) 0 ≡ 0
+    by k m both (yes q) =
+        ap (λ (j : ℕ). getD (set (set (set words (32 + n) a) (64 + n) b) (96 + n) c) (96 + j) 0) q
+        ∙ getD-set-same (set (set words (32 + n) a) (64 + n) b) (96 + n) c 0 (simp length-set (omega (arith, e))) ∙ both .1
+    by k m both (no q) =
+        getD-set-other (set (set words (32 + n) a) (64 + n) b) (96 + n) (96 + k) c 0 (λ r. q (omega arith))
+        ∙ getD-set-other (set words (32 + n) a) (64 + n) (96 + k) b 0 (λ r. omega arith)
+        ∙ getD-set-other words (32 + n) (96 + k) a 0 (λ r. omega arith) ∙ h .zeros (both .0) k (omega arith)
+
+pub none-end : (seen n : ℕ) (words : List ℕ) → 32 ≤ n → NoneSeen seen n words → seen ≡ 0 → NoIndex words
+unfolding NoIndex
+none-end seen n words l h z k m = h .zeros z k (omega arith)
 
 -- ---- stores under masks
 
@@ -506,8 +532,28 @@ pub swap-same : (image : List ℕ) (i : Insn) → length image ≡ 768 → i .vc
 unfolding swap swapWith
 swap-same image i e h = unchanged image _ e (λ L l. lane-own _ _ (i .vc) (i .vd) L (laneIn image L) h)
 
-pub exchange-same : (image : List ℕ) (p q : ℕ) (S : ℕ → Bool) → length image ≡ 768 → p ≡ q → image ≡ storing image (λ L. exchanged p q (S L) (S L) (laneIn image L))
+-- two registers that are exchanged are not one
+pub differ : (p q : ℕ) (b : Bool) → (not (eqb p q) && b) ≡ true → p ≡ q → ⊥
+differ p q b h e = false≢true (sym (ap not (eq-eqb p q e)) ∙ and-left (not (eqb p q)) b h)
+
+exchange-same : (image : List ℕ) (p q : ℕ) (S : ℕ → Bool) → length image ≡ 768 → p ≡ q → image ≡ storing image (λ L. exchanged p q (S L) (S L) (laneIn image L))
 unfolding exchanged
 exchange-same image p q S e h =
     unchanged image _ e
     (λ L l. rw h (after-both (storedUnder q (S L) (laneIn image L q)) (storedUnder q (S L) (laneIn image L q)) (laneIn image L) (under-own q (S L) (laneIn image L)) (under-own q (S L) (laneIn image L))))
+
+-- where no lane swaps with bit 2 set, there is no exchange
+exchange-none : (image t : List ℕ) (p q : ℕ) → length image ≡ 768 → NoIndex t
+    → image ≡ storing image (λ L. exchanged p q (marked t (96 + L)) (marked t (96 + L)) (laneIn image L))
+unfolding NoIndex exchanged pick
+exchange-none image t p q e h =
+    sym (storing-none image _ e (λ L l. ap (λ (x : ℕ). exchanged p q (eqb x 0xFFFFFFFF) (eqb x 0xFFFFFFFF) (laneIn image L)) (h L l)))
+
+pub exchange-skipped : (image t : List ℕ) (p q seen : ℕ) → length image ≡ 768 → (not (eqb p q) && not (eqb seen 0)) ≡ false → (seen ≡ 0 → NoIndex t)
+    → image ≡ storing image (λ L. exchanged p q (marked t (96 + L)) (marked t (96 + L)) (laneIn image L))
+exchange-skipped image t p q seen e h k = by (ℕ-discrete p q) (ℕ-discrete seen 0)
+  where
+    by : Dec (p ≡ q) → Dec (seen ≡ 0) → image ≡ storing image (λ L. exchanged p q (marked t (96 + L)) (marked t (96 + L)) (laneIn image L))
+    by (yes r) s = exchange-same image p q (λ L. marked t (96 + L)) e r
+    by (no r) (yes s) = exchange-none image t p q e (k s)
+    by (no r) (no s) = absurd (false≢true (sym h ∙ simp (ne-eqb p q r, ne-eqb seen 0 s)))

@@ -35,6 +35,10 @@ marked t k = eqb (getD t k 0) 0xFFFFFFFF
 unfoldable pub Masks : List ℕ → Type 0
 Masks t = (k : ℕ) → k < 128 → getD t k 0 ≡ full (marked t k)
 
+-- No lane swaps with bit 2 set: the last row is all zeros.
+unfoldable pub NoIndex : List ℕ → Type 0
+NoIndex t = (n : ℕ) → n < 32 → getD t (96 + n) 0 ≡ 0
+
 -- A store under a test.
 abbrev pub storedUnder : ℕ → Bool → ℕ → Stores
 storedUnder p t w = pick t ((p, w) ∷ []) []

@@ -37,7 +37,8 @@ fn swap_mask(go: u32, always: bool, free: bool, minimum: bool, config: u32, c: u
     go & full((free | (config / 16 % 2 == 1)) & swapping)
 }
 
-// The rows of masks after the first, the lanes that are enabled: the lanes that swap; of those, the lanes with bit 2 clear; and those with it set.
+// The rows of masks after the first, the lanes that are enabled: the lanes that swap; of those, the lanes with bit 2 clear; and those with it set. The union of the
+// last is returned: 0 where no lane exchanges the index registers.
 fn swap_masks(
     image: &[u32],
     always: bool,
@@ -46,10 +47,11 @@ fn swap_masks(
     c: &[u32; 32],
     d: &[u32; 32],
     t: &mut [u32],
-)
+) -> u32
     requires { ⌜ (length (now image) ≡ 768) × Rows.Enabled (now t) (now image) ⌝ }
-    ensures { λ _. ⌜ now (t .exit) ≡ Swaps.maskRows (λ L. enabled (laneIn (now (image .entry)) L)) (λ L. Swaps.swapsBy always free mask L (getD (now (c .entry)) L 0) (getD (now (d .entry)) L 0) (laneIn (now (image .entry)) L)) (λ L. bit (laneIn (now (image .entry)) L 12) 2) ⌝ }
+    ensures { λ r. ⌜ (now (t .exit) ≡ Swaps.maskRows (λ L. enabled (laneIn (now (image .entry)) L)) (λ L. Swaps.swapsBy always free mask L (getD (now (c .entry)) L 0) (getD (now (d .entry)) L 0) (laneIn (now (image .entry)) L)) (λ L. bit (laneIn (now (image .entry)) L 12) 2)) × (r ≡ 0 → Swaps.NoIndex (now (t .exit))) ⌝ }
 {
+    let mut seen: u32 = 0;
     let mut n: usize = 0;
     while n < 32 {
         let config = word_at(image, LANE_CONFIG, n);
@@ -66,23 +68,25 @@ fn swap_masks(
         t[32 + n] = on;
         t[64 + n] = on ^ index;
         t[96 + n] = index;
+        seen = seen | index;
         n += 1;
     }
+    seen
 }
 
 // The same for an instruction. Each call but the last has constants for the tests, so that each has a loop of its own once compiled.
-fn masks_of(image: &[u32], i: Insn, c: &[u32; 32], d: &[u32; 32], t: &mut [u32])
+fn masks_of(image: &[u32], i: Insn, c: &[u32; 32], d: &[u32; 32], t: &mut [u32]) -> u32
     requires { ⌜ (length (now image) ≡ 768) × Rows.Enabled (now t) (now image) ⌝ }
-    ensures { λ _. ⌜ now (t .exit) ≡ Swaps.maskRows (λ L. enabled (laneIn (now (image .entry)) L)) (λ L. Swaps.swapsBy (eqb (i .md) 0) (ltb (i .vd) 12) (Rules.maskOf (i .md)) L (getD (now (c .entry)) L 0) (getD (now (d .entry)) L 0) (laneIn (now (image .entry)) L)) (λ L. bit (laneIn (now (image .entry)) L 12) 2) ⌝ }
+    ensures { λ r. ⌜ (now (t .exit) ≡ Swaps.maskRows (λ L. enabled (laneIn (now (image .entry)) L)) (λ L. Swaps.swapsBy (eqb (i .md) 0) (ltb (i .vd) 12) (Rules.maskOf (i .md)) L (getD (now (c .entry)) L 0) (getD (now (d .entry)) L 0) (laneIn (now (image .entry)) L)) (λ L. bit (laneIn (now (image .entry)) L 12) 2)) × (r ≡ 0 → Swaps.NoIndex (now (t .exit))) ⌝ }
 {
     if i.vd < 12 {
         if i.md == 0 {
-            swap_masks(image, true, true, 0, c, d, t);
+            swap_masks(image, true, true, 0, c, d, t)
         } else {
-            swap_masks(image, false, true, mask_of(i.md), c, d, t);
+            swap_masks(image, false, true, mask_of(i.md), c, d, t)
         }
     } else {
-        swap_masks(image, i.md == 0, false, mask_of(i.md), c, d, t);
+        swap_masks(image, i.md == 0, false, mask_of(i.md), c, d, t)
     }
 }
 
@@ -154,11 +158,12 @@ pub(crate) fn swap(image: &mut [u32], i: Insn, t: &mut [u32; 128], fixed: &[u32;
     }
     let c = source(image, fixed, i.vc);
     let d = source(image, fixed, i.vd);
-    masks_of(image, i, &c, &d, t);
+    let seen = masks_of(image, i, &c, &d, t);
     store_both(image, i, &c, &d, t);
     let p = (4 + i.vc % 4) as usize;
     let q = (4 + i.vd % 4) as usize;
-    if p != q {
+    let exchanges = (p != q) & (seen != 0);
+    if exchanges {
         exchange(image, p, q, t, 96, 96);
     }
 }

@@ -8,13 +8,13 @@ use mathlib.Core.Path.{refl, sym}
 use Rattle.runner.proofs.swap.masks_of.Tie as tie
 
 returns : tie.Need-returns
-returns c = let a = c .before .before .before .before .before .before .before .before .before .before .args in rows-always (a .image .now) (a .c .now) (a .d .now) _ _ _ _ (sym (eq-eqb (a .i .md) 0 (c .before .before .before .before .if2 .taken))) (sym (lt-ltb (a .i .vd) 12 (c .before .before .before .before .before .before .if1 .taken))) (c .before .before .swap-masks .ensures)
+returns c = let a = c .before .before .before .before .before .before .before .before .before .before .args in (rows-always (a .image .now) (a .c .now) (a .d .now) _ _ _ _ (sym (eq-eqb (a .i .md) 0 (c .before .before .before .before .if2 .taken))) (sym (lt-ltb (a .i .vd) 12 (c .before .before .before .before .before .before .if1 .taken))) (c .before .before .swap-masks .ensures .0), c .before .before .swap-masks .ensures .1)
 
 returns-2 : tie.Need-returns-2
-returns-2 c = let a = c .before .before .before .before .before .before .before .before .before .before .before .args in rows-by (a .image .now) (a .c .now) (a .d .now) _ false _ true _ _ _ (sym (ne-eqb (a .i .md) 0 (c .before .before .before .before .before .if2 .left))) (sym (lt-ltb (a .i .vd) 12 (c .before .before .before .before .before .before .before .if1 .taken))) (c .before .before .before .before .mask-of .ensures) (c .before .before .swap-masks2 .ensures)
+returns-2 c = let a = c .before .before .before .before .before .before .before .before .before .before .before .args in (rows-by (a .image .now) (a .c .now) (a .d .now) _ false _ true _ _ _ (sym (ne-eqb (a .i .md) 0 (c .before .before .before .before .before .if2 .left))) (sym (lt-ltb (a .i .vd) 12 (c .before .before .before .before .before .before .before .if1 .taken))) (c .before .before .before .before .mask-of .ensures) (c .before .before .swap-masks2 .ensures .0), c .before .before .swap-masks2 .ensures .1)
 
 returns-3 : tie.Need-returns-3
-returns-3 c = let a = c .before .before .before .before .before .before .before .before .before .before .args in rows-by (a .image .now) (a .c .now) (a .d .now) _ (eqb (a .i .md) 0) _ false _ _ _ refl (sym (le-ltb (a .i .vd) 12 (c .before .before .before .before .before .before .if1 .left))) (c .before .before .before .before .mask-of2 .ensures) (c .before .before .swap-masks3 .ensures)
+returns-3 c = let a = c .before .before .before .before .before .before .before .before .before .before .args in (rows-by (a .image .now) (a .c .now) (a .d .now) _ (eqb (a .i .md) 0) _ false _ _ _ refl (sym (le-ltb (a .i .vd) 12 (c .before .before .before .before .before .before .if1 .left))) (c .before .before .before .before .mask-of2 .ensures) (c .before .before .swap-masks3 .ensures .0), c .before .before .swap-masks3 .ensures .1)
 
 pub masks-of-spec : {M : Type 1} → statement M
 masks-of-spec =

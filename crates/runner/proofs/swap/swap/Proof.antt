@@ -1,4 +1,4 @@
-use Rattle.runner.proofs.SwapRows.{are-masks, swap-made, swap-enabled, swap-same, exchange-same}
+use Rattle.runner.proofs.SwapRows.{are-masks, swap-made, swap-enabled, swap-same, differ, exchange-skipped}
 use Rattle.runner.proofs.swap.swap.Statement.{statement}
 use borrow.Author.Needs.{needs}
 use mathlib.Core.Path.{_∙_}
@@ -9,16 +9,16 @@ returns : tie.Need-returns
 returns c = (swap-same _ _ (c .before .before .before .pre .0) (c .if1 .taken), c .before .before .before .pre .1 .0)
 
 store-both-requires : tie.Need-store-both-requires
-store-both-requires c κs = (c .before .before .before .before .before .before .before .before .before .before .before .before .before .before .before .before .pre .0, (c .before .before .before .before .before .before .before .before .before .before .before .before .before .if1 .left, (are-masks _ _ _ _ (c .before .before .before .before .masks-of .ensures), (c .before .before .before .before .before .before .before .before .before .before .before .source .ensures, c .before .before .before .before .before .before .before .before .before .source2 .ensures))))
+store-both-requires c κs = (c .before .before .before .before .before .before .before .before .before .before .before .before .before .before .before .before .pre .0, (c .before .before .before .before .before .before .before .before .before .before .before .before .before .if1 .left, (are-masks _ _ _ _ (c .before .before .before .before .masks-of .ensures .0), (c .before .before .before .before .before .before .before .before .before .before .before .source .ensures, c .before .before .before .before .before .before .before .before .before .source2 .ensures))))
 
 exchange-requires : tie.Need-exchange-requires
-exchange-requires c κs = (c .before .before .before .before .before .before .before .store-both .kept .0 ∙ c .before .before .before .before .before .before .before .before .before .before .before .before .before .before .before .before .before .before .before .before .before .before .before .before .pre .0, (are-masks _ _ _ _ (c .before .before .before .before .before .before .before .before .before .before .before .before .masks-of .ensures), (c .before .before .if2 .taken, ((omega arith, omega arith), (omega arith, omega arith)))))
+exchange-requires c κs = (c .before .before .before .before .before .before .before .store-both .kept .0 ∙ c .before .before .before .before .before .before .before .before .before .before .before .before .before .before .before .before .before .before .before .before .before .before .before .before .pre .0, (are-masks _ _ _ _ (c .before .before .before .before .before .before .before .before .before .before .before .before .masks-of .ensures .0), (differ _ _ _ (c .before .before .if2 .taken), ((omega arith, omega arith), (omega arith, omega arith)))))
 
 returns-2 : tie.Need-returns-2
-returns-2 c = let a = c .before .before .before .before .before .before .before .before .before .before .before .before .before .before .before .before .before .before .before .before .before .before .before .before .before .before .before .args in let made = swap-made (a .image .now) _ _ _ (a .i) (c .before .before .before .before .before .before .before .before .before .before .before .before .before .before .before .before .before .before .before .before .before .before .source .ensures) (c .before .before .before .before .before .before .before .before .before .before .before .before .before .before .before .before .before .before .before .before .source2 .ensures) (c .before .before .before .before .before .before .before .before .before .before .before .before .before .before .before .masks-of .ensures) _ _ (c .before .before .before .before .before .before .before .before .before .before .store-both .ensures) (c .before .before .exchange .ensures) in (made, swap-enabled (a .image .now) _ _ _ (a .i) (c .before .before .before .before .before .before .before .before .before .before .before .before .before .before .before .before .before .before .before .before .before .before .source .ensures) (c .before .before .before .before .before .before .before .before .before .before .before .before .before .before .before .before .before .before .before .before .source2 .ensures) (c .before .before .before .before .before .before .before .before .before .before .before .before .before .before .before .masks-of .ensures) _ made)
+returns-2 c = let a = c .before .before .before .before .before .before .before .before .before .before .before .before .before .before .before .before .before .before .before .before .before .before .before .before .before .before .before .args in let made = swap-made (a .image .now) _ _ _ (a .i) (c .before .before .before .before .before .before .before .before .before .before .before .before .before .before .before .before .before .before .before .before .before .before .source .ensures) (c .before .before .before .before .before .before .before .before .before .before .before .before .before .before .before .before .before .before .before .before .source2 .ensures) (c .before .before .before .before .before .before .before .before .before .before .before .before .before .before .before .masks-of .ensures .0) _ _ (c .before .before .before .before .before .before .before .before .before .before .store-both .ensures) (c .before .before .exchange .ensures) in (made, swap-enabled (a .image .now) _ _ _ (a .i) (c .before .before .before .before .before .before .before .before .before .before .before .before .before .before .before .before .before .before .before .before .before .before .source .ensures) (c .before .before .before .before .before .before .before .before .before .before .before .before .before .before .before .before .before .before .before .before .source2 .ensures) (c .before .before .before .before .before .before .before .before .before .before .before .before .before .before .before .masks-of .ensures .0) _ made)
 
 returns-3 : tie.Need-returns-3
-returns-3 c = let a = c .before .before .before .before .before .before .before .before .before .before .before .before .before .before .before .before .before .before .before .before .before .before .args in let made = swap-made (a .image .now) _ _ _ (a .i) (c .before .before .before .before .before .before .before .before .before .before .before .before .before .before .before .before .before .source .ensures) (c .before .before .before .before .before .before .before .before .before .before .before .before .before .before .before .source2 .ensures) (c .before .before .before .before .before .before .before .before .before .before .masks-of .ensures) _ _ (c .before .before .before .before .before .store-both .ensures) (exchange-same _ _ _ _ (c .before .before .before .before .before .store-both .kept .0 ∙ c .before .before .before .before .before .before .before .before .before .before .before .before .before .before .before .before .before .before .before .before .before .before .pre .0) (c .if2 .left)) in (made, swap-enabled (a .image .now) _ _ _ (a .i) (c .before .before .before .before .before .before .before .before .before .before .before .before .before .before .before .before .before .source .ensures) (c .before .before .before .before .before .before .before .before .before .before .before .before .before .before .before .source2 .ensures) (c .before .before .before .before .before .before .before .before .before .before .masks-of .ensures) _ made)
+returns-3 c = let a = c .before .before .before .before .before .before .before .before .before .before .before .before .before .before .before .before .before .before .before .before .before .before .args in let made = swap-made (a .image .now) _ _ _ (a .i) (c .before .before .before .before .before .before .before .before .before .before .before .before .before .before .before .before .before .source .ensures) (c .before .before .before .before .before .before .before .before .before .before .before .before .before .before .before .source2 .ensures) (c .before .before .before .before .before .before .before .before .before .before .masks-of .ensures .0) _ _ (c .before .before .before .before .before .store-both .ensures) (exchange-skipped _ _ _ _ _ (c .before .before .before .before .before .store-both .kept .0 ∙ c .before .before .before .before .before .before .before .before .before .before .before .before .before .before .before .before .before .before .before .before .before .before .pre .0) (c .if2 .left) (c .before .before .before .before .before .before .before .before .before .before .masks-of .ensures .1)) in (made, swap-enabled (a .image .now) _ _ _ (a .i) (c .before .before .before .before .before .before .before .before .before .before .before .before .before .before .before .before .before .source .ensures) (c .before .before .before .before .before .before .before .before .before .before .before .before .before .before .before .source2 .ensures) (c .before .before .before .before .before .before .before .before .before .before .masks-of .ensures .0) _ made)
 
 pub swap-spec : {M : Type 1} → statement M
 swap-spec =
