@@ -1,9 +1,8 @@
 -- The lane rules' answer and words together. Assumes nothing.
-use mathlib.Core.Path.{_≡_, refl, sym, ap, _∙_}
+use mathlib.Core.Path.{_≡_, refl, sym, _∙_}
 use Prim.Native.Nat.{ℕ, _≤_}
-use mathlib.Core.Bool.{Bool, true, false, not, _&&_, true≢false}
+use mathlib.Core.Bool.{Bool, true, false, not, _&&_}
 use mathlib.Core.List.{List}
-use native.Mathlib.Omega.{arith}
 use lib.Dec.{eqb, leb}
 use borrow.Author.Tests.{leb-true, eq-eqb, ne-eqb, eqb-false}
 use Rattle.lane.specs.declared.Stepped.{Stepped}
@@ -22,13 +21,13 @@ pub refused : (a n : ℕ) (x own : List ℕ) → n ≡ a → (n ≡ 0 → ⊥)
 refused a n x own e h =
     λ i. record { answer = e i; words = sym (pick-false (eqb a 0) x own (ne-eqb a 0 (λ z. h (e ∙ z)))) i }
 
--- an instruction that is answered 0 has what 8 asks besides the fields
-chain : (k g also w : Bool) → pass k 7 (pass (g && also) 8 (pass w 9 0)) ≡ 0 → also ≡ true
+-- an instruction that is answered 0 has a known op, good fields, and what 8 asks besides them
+pub unrefused : (k g also w : Bool) → pass k 7 (pass (g && also) 8 (pass w 9 0)) ≡ 0 → (k ≡ true) × ((g ≡ true) × (also ≡ true))
 unfolding pass pick
-chain false g also w h = absurd (eqb-false 7 0 refl h)
-chain true false also w h = absurd (eqb-false 8 0 refl h)
-chain true true false w h = absurd (eqb-false 8 0 refl h)
-chain true true true w h = refl
+unrefused false g also w h = absurd (eqb-false 7 0 refl h)
+unrefused true false also w h = absurd (eqb-false 8 0 refl h)
+unrefused true true false w h = absurd (eqb-false 8 0 refl h)
+unrefused true true true w h = (refl, (refl, refl))
 
 refusals : (s o : Bool) (n : ℕ) → pass s 3 (pass o 6 n) ≡ 0 → n ≡ 0
 unfolding pass pick
@@ -41,5 +40,6 @@ pub accepted-lane : (s : Settings) (L : ℕ) (i : Insn) (own head : Lane) → la
 unfolding laneAnswer instructionAnswer
 accepted-lane s L i own head h =
     leb-true L 31
-    (chain (opKnown (i .op)) (fieldsGood (i .op) i) (leb L 31) (not (wideLoad (i .op) (i .md)))
-    (refusals (settingsGood s) (wellFormed own && wellFormed head) (instructionAnswer (leb L 31) i) h))
+    (unrefused (opKnown (i .op)) (fieldsGood (i .op) i) (leb L 31) (not (wideLoad (i .op) (i .md)))
+    (refusals (settingsGood s) (wellFormed own && wellFormed head) (instructionAnswer (leb L 31) i) h)
+    .1 .1)

@@ -50,13 +50,6 @@ module _ {X : Type 0} (x y z : X) where
   pub if-even : (m : ℕ) → (m % 2 ≡ 1 → ⊥) → z ≡ y → z ≡ pick (has m 1) x y
   if-even m h e = if-false (has m 1) (ne-eqb (m / 1 % 2) 1 (λ k. h (omega arith))) e
 
-  -- a test that a call answered
-  pub call-true : (s t : Bool) → s ≡ t → s ≡ true → z ≡ x → z ≡ pick t x y
-  call-true s t k h e = if-true t (sym k ∙ h) e
-
-  pub call-false : (s t : Bool) → s ≡ t → s ≡ false → z ≡ y → z ≡ pick t x y
-  call-false s t k h e = if-false t (sym k ∙ h) e
-
 pub has-one : (m : ℕ) → has m 1 ≡ eqb (m % 2) 1
 has-one m = ap (λ (k : ℕ). eqb (k % 2) 1) (div-one m)
 

@@ -1,6 +1,6 @@
 -- What the result of one instruction depends on: nothing but what the rule is handed. The column theorem rests on `same-lane`, a theorem for
 -- one lane in lists without CONFIG on `lanewise-only`; neither looks at an operation. Assumes nothing.
-use mathlib.Core.Path.{_≡_, refl, sym, ap, _∙_}
+use mathlib.Core.Path.{_≡_, sym, _∙_}
 use Prim.Native.Nat.{ℕ}
 use mathlib.Core.List.{List}
 use lib.Dec.{eqb}
@@ -8,7 +8,7 @@ use borrow.Author.Tests.{ne-eqb}
 use Rattle.lane.specs.declared.Settings.{Settings}
 use Rattle.lane.specs.declared.Insn.{Insn}
 use Rattle.lane.specs.declared.Stepped.{Stepped}
-use Rattle.lane.specs.Words.{pick, bit, Lane, laneConfig, after}
+use Rattle.lane.specs.Words.{bit, Lane, laneConfig, after}
 use Rattle.lane.specs.Config.{config}
 use Rattle.lane.specs.Rule.{lanewise, storesOf}
 use Rattle.lane.specs.Refusals.{laneStep}

@@ -1,11 +1,10 @@
 -- The table of fields: a number that is no op has no row. Assumes nothing.
-use mathlib.Core.Path.{_≡_, refl, sym, ap, _∙_}
+use mathlib.Core.Path.{_≡_, sym, ap}
 use Prim.Native.Nat.{ℕ, _+_, _≤_, _<_}
 use native.Mathlib.Decide.{decLe}
 use native.Mathlib.Nat.{lt-of-not-le}
 use native.Mathlib.Omega.{arith}
-use lib.ListN.{getD, List·getD-eq-default}
-use Rattle.lane.specs.declared.Limits.{Limits}
+use lib.ListN.{List·getD-eq-default}
 use Rattle.lane.specs.Refusals.{immLimits, vbLimits, vcLimits, vdLimits, modsAllowed, limits, limitsOf}
 
 past : (op : ℕ) → 16 ≤ op → limits 0 0 0 0 0 ≡ limitsOf op

@@ -1,10 +1,9 @@
 -- The one NaN of the logic and the many of the machine. Assumes nothing.
-use mathlib.Core.Path.{_≡_, refl, sym, ap, _∙_}
-use Prim.Native.Nat.{ℕ, _*_}
-use mathlib.Core.Bool.{Bool, true, false, not, Bool·beq, true≢false, false≢true, _&&_, _||_}
+use mathlib.Core.Path.{_≡_, refl, sym, _∙_}
+use Prim.Native.Nat.{_*_}
+use mathlib.Core.Bool.{Bool, true, false, not, Bool·beq, true≢false, false≢true}
 use lib.Ieee.{Float, nan, inf, fin, isNan, eq, ne, up, down, binary32, div, ofBits}
-use lib.Dec.{eqb, eqb-refl, T}
-use denote.Floats.{passes}
+use lib.Dec.{T}
 use borrow.Author.Tests.{eq-eqb}
 
 pub only-nan : (x : Float) → isNan x ≡ true → nan ≡ x

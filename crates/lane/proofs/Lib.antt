@@ -6,6 +6,5 @@ pub mod Ranks
 pub mod Fields
 pub mod Stores
 pub mod Answers
-pub mod Twelve
+pub mod Accepted
 pub mod Depends
-pub mod WellFormed

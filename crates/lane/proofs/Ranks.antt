@@ -8,8 +8,7 @@ use native.Mathlib.Omega.{arith}
 use lib.Dec.{leb, ltb}
 use borrow.Author.Tests.{lt-ltb, le-ltb, le-leb, lt-leb}
 use Rattle.lane.specs.Words.{pick}
-use Rattle.lane.specs.Swap.{rank, ranksBelow, outOfOrder, swaps}
-use Rattle.lane.proofs.Cases.{pick-true, pick-false}
+use Rattle.lane.specs.Swap.{rank, ranksBelow, swaps}
 
 -- one order or the other
 split {ℓ} : {X : Type ℓ} (a b : ℕ) → (b ≤ a → X) → (a < b → X) → X

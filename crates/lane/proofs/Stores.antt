@@ -1,18 +1,18 @@
 -- Lists built from a function, and what a lane's stores make of its 24 words. Assumes nothing.
 use mathlib.Core.Path.{_≡_, refl, sym, ap, _∙_}
 use Prim.Native.Nat.{ℕ, zero, suc, _+_, _<_, _≤_}
-use native.Mathlib.Nat.{le-of-suc-le-suc, not-suc-le-zero, eq-or-lt-of-le, lt-irrefl}
+use native.Mathlib.Nat.{le-of-suc-le-suc, not-suc-le-zero, eq-or-lt-of-le}
 use native.Mathlib.Numerals.{add-one}
 use native.Mathlib.Omega.{arith}
 use mathlib.Core.Bool.{Bool, true, false}
-use mathlib.Core.List.{List, [], _∷_, _++_, append-assoc}
-use mathlib.Core.Logic.{⊎-elim, _⊎_, inl, inr}
+use mathlib.Core.List.{List, [], _∷_, _++_}
+use mathlib.Core.Logic.{_⊎_, inl, inr}
 use lib.ListN.{length, getD, set, length-append, length-set, List·getD-append}
 use lib.Seq.{ext-getD, getD-at, getD-set-same, getD-set-other}
 use lib.Dec.{eqb}
 use native.Mathlib.Decide.{ℕ-discrete}
 use borrow.Author.Tests.{eq-eqb, ne-eqb}
-use Rattle.lane.specs.Words.{pick, Lane, Stores, build, laneOf, wordsOf, upd, after, wordsAfter}
+use Rattle.lane.specs.Words.{pick, Lane, Stores, build, laneOf, upd, after, wordsAfter}
 use Rattle.lane.proofs.Cases.{pick-true, pick-false}
 
 -- a built list has the length asked for, and at each index the function's word

@@ -1,5 +1,5 @@
 -- Document 01, "What each operation does": IADD and the others, each the word that it computes and the flag that it sets.
-use Prim.Native.Nat.{ℕ, _+_, _-_, _*_, _/_, _%_, _^_}
+use Prim.Native.Nat.{ℕ, _+_, _-_, _/_, _%_, _^_}
 use mathlib.Core.Bool.{Bool, not, _&&_}
 use mathlib.Core.List.{[], _∷_}
 use lib.Bits.{bitAnd, bitOr, bitXor}

@@ -7,4 +7,3 @@ pub mod Config
 pub mod Compute
 pub mod Rule
 pub mod Refusals
-pub mod Twelve

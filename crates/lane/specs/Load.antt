@@ -52,17 +52,10 @@ fp16 inf x =
 unfoldable pub bf16 : ℕ → ℕ
 bf16 x = x / 2 ^ 15 * 2 ^ 31 + x % 256 * 2 ^ 23 + x / 256 % 128 * 2 ^ 16
 
--- SignMag8ToSignMag32: the sign, and seven bits of magnitude from bit 5 up.
-unfoldable pub int8 : ℕ → ℕ
-int8 x = x / 2 ^ 15 * 2 ^ 31 + x / 32 % 128
-
--- SignMag16ToSignMag32: the sign, and fifteen bits of magnitude.
-unfoldable pub int16 : ℕ → ℕ
-int16 x = x / 2 ^ 15 * 2 ^ 31 + x % 2 ^ 15
-
--- SignMag11ToSignMag32: the sign, and ten bits of magnitude from bit 5 up.
-abbrev pub signMag11 : ℕ → ℕ
-signMag11 x = x / 2 ^ 15 * 2 ^ 31 + x / 32 % 1024
+-- The sign, and `width` bits of magnitude from bit `place` up. SignMag8ToSignMag32 has seven from bit 5, SignMag16ToSignMag32 fifteen from bit 0,
+-- SignMag11ToSignMag32 ten from bit 5.
+unfoldable pub signMag : ℕ → ℕ → ℕ → ℕ
+signMag place width x = x / 2 ^ 15 * 2 ^ 31 + x / 2 ^ place % 2 ^ width
 
 -- SignMagToTwosComp: minus the magnitude where the sign is set.
 unfoldable pub twosComp : ℕ → ℕ
@@ -81,12 +74,12 @@ unfoldable pub loaded : ℕ → Bool → ℕ → ℕ → ℕ
 loaded m inf old cell =
     pick (eqb m 1) (fp16 inf cell)
     (pick (eqb m 2) (bf16 cell)
-    (pick (eqb m 5) (int8 cell)
+    (pick (eqb m 5) (signMag 5 7 cell)
     (pick (eqb m 6) cell
     (pick (eqb m 7) (cell * 2 ^ 16)
-    (pick (eqb m 8) (int16 cell)
+    (pick (eqb m 8) (signMag 0 15 cell)
     (pick (eqb m 9) cell
-    (pick (eqb m 13) (twosComp (signMag11 cell)) (pick (eqb m 14) (withLow old cell) (pick (eqb m 15) (withHigh old cell) 0)))))))))
+    (pick (eqb m 13) (twosComp (signMag 5 10 cell)) (pick (eqb m 14) (withLow old cell) (pick (eqb m 15) (withHigh old cell) 0)))))))))
 
 -- "Mod 0 means mod srcb."
 unfoldable pub resolved : ℕ → ℕ → ℕ

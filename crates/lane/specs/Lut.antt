@@ -5,7 +5,7 @@ use mathlib.Core.List.{[], _∷_}
 use lib.Ieee.{Float, binary32, ofBits, toBits, add, mul, lt}
 use lib.Dec.{ltb, eqb}
 use Rattle.lane.specs.declared.Insn.{Insn}
-use Rattle.lane.specs.declared.Line.{Line}
+use Rattle.lane.specs.declared.Piece.{Piece}
 use Rattle.lane.specs.declared.LutAnswer.{LutAnswer}
 use Rattle.lane.specs.declared.LutAnswer.the-variants.{Number, Nothing}
 use Rattle.lane.specs.Words.{pick, has, sign, magnitude, Lane, Stores}
@@ -27,16 +27,16 @@ unfoldable pub byteWord : ℕ → ℕ
 byteWord x = pick (eqb x 255) 0 (x / 128 * 2 ^ 31 + (127 - x / 16 % 8) * 2 ^ 23 + x % 16 * 2 ^ 19)
 
 -- "Bits 15 to 8 and 7 to 0 .. each byte pair gives a slope and an intercept, kept together as floats."
-abbrev pub lineOf : ℕ → Line
-lineOf k = record { slope = ofBits binary32 (byteWord (k / 256 % 256)); intercept = ofBits binary32 (byteWord (k % 256)) }
+abbrev pub pieceOf : ℕ → Piece
+pieceOf k = record { slope = ofBits binary32 (byteWord (k / 256 % 256)); intercept = ofBits binary32 (byteWord (k % 256)) }
 
 -- "Result: slope times b, rounded, plus intercept, rounded to nearest even."
-abbrev pub sumOf : Line → Float → Float
+abbrev pub sumOf : Piece → Float → Float
 sumOf k b = add binary32 (mul binary32 (k .slope) b) (k .intercept)
 
 -- The result where registers 0, 1, 2 and 3 hold c0, c1, c2 and r3.
 abbrev pub resultOf : ℕ → ℕ → ℕ → ℕ → Float
-resultOf c0 c1 c2 r3 = sumOf (lineOf (serving (inputOf r3) c0 c1 c2)) (inputOf r3)
+resultOf c0 c1 c2 r3 = sumOf (pieceOf (serving (inputOf r3) c0 c1 c2)) (inputOf r3)
 
 -- "A denormal result becomes zero of its sign; any NaN becomes 0x7FC00000" (which is what toBits gives a NaN).
 unfoldable pub flushed : ℕ → ℕ

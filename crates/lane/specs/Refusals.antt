@@ -1,5 +1,5 @@
 -- Document 01, "The clerk's numbers" and "Fields", as far as one lane goes: the refusals 3, 6, 7, 8 and 9.
-use Prim.Native.Nat.{ℕ, _*_, _%_, _^_}
+use Prim.Native.Nat.{ℕ, _^_}
 use mathlib.Core.Bool.{Bool, not, _&&_, _||_}
 use mathlib.Core.List.{List, [], _∷_}
 use lib.ListN.{getD}

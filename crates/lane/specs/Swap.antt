@@ -1,13 +1,13 @@
 -- Document 01, "What each operation does": SWAP.
-use Prim.Native.Nat.{ℕ, _+_, _/_, _%_, _^_}
-use mathlib.Core.Bool.{Bool, true, not, _&&_, _||_}
+use Prim.Native.Nat.{ℕ, _+_, _%_, _^_}
+use mathlib.Core.Bool.{Bool, not, _&&_, _||_}
 use mathlib.Core.List.{List, [], _∷_, _++_}
 use lib.ListN.{getD}
 use lib.IntN.{ℤ, pos, negsuc}
 use lib.Signed.{ltZ}
 use lib.Dec.{ltb, eqb}
 use Rattle.lane.specs.declared.Insn.{Insn}
-use Rattle.lane.specs.Words.{pick, bit, sign, magnitude, Lane, Stores, laneConfig, laneFlag, useFlag, enabledBy, reg}
+use Rattle.lane.specs.Words.{pick, bit, magnitude, Lane, Stores, laneConfig, laneFlag, useFlag, enabledBy, reg}
 
 -- "An enabled lane acts if vd is below 12 or bit 4 is set." LUT has the same condition.
 abbrev pub actsBy : ℕ → ℕ → ℕ → ℕ → Bool

@@ -18,15 +18,15 @@ pub fn flag_after(sets: bool, truth: bool, m: u32, old: u32) -> u32
 }
 
 // A 12-bit number, extended by its sign.
-pub fn extended(imm: u32) -> u32
+fn extended(imm: u32) -> u32
     ensures { λ r. ⌜ r ≡ Compute.extended imm ⌝ }
 {
     let low = imm % 4096;
-    if low < 2048 { low } else { low + 0xFFFF_F000 }
+    if low < 2048 { low } else { low + 0xFFFFF000 }
 }
 
 // The difference, wrapping.
-pub fn minus(a: u32, b: u32) -> u32
+fn minus(a: u32, b: u32) -> u32
     ensures { λ r. ⌜ r ≡ Compute.minus a b ⌝ }
 {
     wrapping_sub_u32(a, b)
@@ -46,28 +46,28 @@ pub fn iadd_word(m: u32, imm: u32, c: u32, d: u32) -> u32
 }
 
 // IADD's flag.
-pub fn iadd_flag(m: u32, result: u32, old: u32) -> u32
+pub(crate) fn iadd_flag(m: u32, result: u32, old: u32) -> u32
     ensures { λ r. ⌜ r ≡ Compute.iaddFlag m result old ⌝ }
 {
-    flag_after(!(m / 4 % 2 == 1), 0x8000_0000 <= result, m, old)
+    flag_after(!(m / 4 % 2 == 1), 0x80000000 <= result, m, old)
 }
 
 // The word whose leading zeros LZ counts.
-pub fn lz_operand(m: u32, c: u32) -> u32
+fn lz_operand(m: u32, c: u32) -> u32
     ensures { λ r. ⌜ r ≡ Compute.lzOperand m c ⌝ }
 {
-    if m / 4 % 2 == 1 { c % 0x8000_0000 } else { c }
+    if m / 4 % 2 == 1 { c % 0x80000000 } else { c }
 }
 
 // LZ's word.
-pub fn lz_word(m: u32, c: u32) -> u32
+pub(crate) fn lz_word(m: u32, c: u32) -> u32
     ensures { λ r. ⌜ r ≡ Compute.lzWord m c ⌝ }
 {
     u32::leading_zeros(lz_operand(m, c))
 }
 
 // LZ's flag.
-pub fn lz_flag(m: u32, c: u32, old: u32) -> u32
+pub(crate) fn lz_flag(m: u32, c: u32, old: u32) -> u32
     ensures { λ r. ⌜ r ≡ Compute.lzFlag m c old ⌝ }
 {
     flag_after(m / 2 % 2 == 1, !(lz_operand(m, c) == 0), m, old)
@@ -77,7 +77,7 @@ pub fn lz_flag(m: u32, c: u32, old: u32) -> u32
 pub fn exexp_word(m: u32, c: u32) -> u32
     ensures { λ r. ⌜ r ≡ Compute.exexpWord m c ⌝ }
 {
-    let exponent = c / 0x80_0000 % 256;
+    let exponent = c / 0x800000 % 256;
     if m % 2 == 1 {
         exponent
     } else {
@@ -86,25 +86,25 @@ pub fn exexp_word(m: u32, c: u32) -> u32
 }
 
 // EXEXP's flag.
-pub fn exexp_flag(m: u32, result: u32, old: u32) -> u32
+pub(crate) fn exexp_flag(m: u32, result: u32, old: u32) -> u32
     ensures { λ r. ⌜ r ≡ Compute.exexpFlag m result old ⌝ }
 {
-    flag_after(m / 2 % 2 == 1, 0x8000_0000 <= result, m, old)
+    flag_after(m / 2 % 2 == 1, 0x80000000 <= result, m, old)
 }
 
 // ABS's word.
-pub fn abs_word(m: u32, c: u32) -> u32
+fn abs_word(m: u32, c: u32) -> u32
     ensures { λ r. ⌜ r ≡ Compute.absWord m c ⌝ }
 {
     if m % 2 == 1 {
-        if 0x7F80_0000 < c % 0x8000_0000 {
+        if 0x7F800000 < c % 0x80000000 {
             c
         } else {
-            c % 0x8000_0000
+            c % 0x80000000
         }
     } else {
-        if 0x8000_0000 <= c {
-            0xFFFF_FFFF - c + 1
+        if 0x80000000 <= c {
+            0xFFFFFFFF - c + 1
         } else {
             c
         }
@@ -112,10 +112,10 @@ pub fn abs_word(m: u32, c: u32) -> u32
 }
 
 // EXMAN's word.
-pub fn exman_word(m: u32, c: u32) -> u32
+fn exman_word(m: u32, c: u32) -> u32
     ensures { λ r. ⌜ r ≡ Compute.exmanWord m c ⌝ }
 {
-    c % 0x80_0000 + keep(m % 2 == 1, 0, 0x80_0000)
+    c % 0x800000 + keep(m % 2 == 1, 0, 0x800000)
 }
 
 // The word of an operation that computes nothing else, from the words of vb, vc and vd.

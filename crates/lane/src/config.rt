@@ -14,11 +14,11 @@ pub fn passed_over(m: u32, imm: u32, lane: u8, use_flag: u32, lane_flag: u32) ->
 pub fn value_of(m: u32, imm: u32, first: u32) -> u32
     ensures { λ r. ⌜ r ≡ Config.valueOf m imm first ⌝ }
 {
-    if m % 2 == 1 { imm % 0x1_0000 } else { first }
+    if m % 2 == 1 { imm % 0x10000 } else { first }
 }
 
 // A value put with the word in place: xor, or, and, or in its stead.
-pub fn combined(m: u32, old: u32, v: u32) -> u32
+fn combined(m: u32, old: u32, v: u32) -> u32
     ensures { λ r. ⌜ r ≡ Config.combined m old v ⌝ }
 {
     if m / 2 % 2 == 1 {
@@ -39,28 +39,28 @@ pub fn misc_after(m: u32, old: u32, v: u32) -> u32
 pub fn lane_config_after(m: u32, old: u32, v: u32) -> u32
     ensures { λ r. ⌜ r ≡ Config.laneConfigAfter m old v ⌝ }
 {
-    let new = combined(m, old, v % 0x4_0000);
+    let new = combined(m, old, v % 0x40000);
     if m % 2 == 1 {
-        old / 0x1_0000 * 0x1_0000 + new % 0x1_0000
+        old / 0x10000 * 0x10000 + new % 0x10000
     } else {
         new
     }
 }
 
 // The constant that an edition fills a register 11 to 14 with.
-pub fn edition_constant(edition: u32, vd: u32) -> u32
+fn edition_constant(edition: u32, vd: u32) -> u32
     ensures { λ r. ⌜ r ≡ Config.editionConstant edition vd ⌝ }
 {
     if vd == 11 {
-        return 0xBF80_0000;
+        return 0xBF800000;
     }
     if vd == 12 {
         if edition == 1 {
-            return 0x3780_0000;
+            return 0x37800000;
         }
-        return 0x3B00_0000;
+        return 0x3B000000;
     }
-    if vd == 13 { 0xBF2C_C4C7 } else { 0xBEB0_8FF9 }
+    if vd == 13 { 0xBF2CC4C7 } else { 0xBEB08FF9 }
 }
 
 // A register 11 to 14 afterwards.

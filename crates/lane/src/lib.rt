@@ -1,6 +1,6 @@
 // The rules of one lane: the fifteen operations of document 01, both editions, on words.
 //
-// Everything public is total: it has a promise and no `requires`. The promises cite specs/, which renders document 01.
+// Public is what another crate calls. All of it is total: it has a promise and no `requires`. The promises cite specs/, which renders document 01.
 
 // The registers never stored, enabled, and what a store does to a lane's 24 words.
 pub mod words;
@@ -42,12 +42,12 @@ pub struct Insn {
 }
 
 // What an op's fields may hold: the largest number for each, and the mods allowed, mod m as bit m.
-pub struct Limits {
-    pub imm: u32,
-    pub vb: u32,
-    pub vc: u32,
-    pub vd: u32,
-    pub mods: u32,
+struct Limits {
+    imm: u32,
+    vb: u32,
+    vc: u32,
+    vd: u32,
+    mods: u32,
 }
 
 // What the lane rules answer: a number of the clerk's, and the lane's words afterwards.
@@ -57,7 +57,7 @@ pub struct Stepped {
 }
 
 // A piece of a LUT: what a coefficient word's two bytes stand for.
-pub struct Line {
+pub struct Piece {
     pub slope: f32,
     pub intercept: f32,
 }

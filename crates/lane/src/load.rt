@@ -3,6 +3,7 @@ use crate::Settings;
 use crate::words::enabled;
 use std::num::wrapping_sub_u32;
 ghost use mathlib.Core.Path.{_≡_};
+ghost use Prim.Native.Nat.{_<_};
 ghost use Rattle.lane.specs.Load as Load;
 
 // The address at which an instruction meets Dst. Each part is cut first, so that no sum wraps.
@@ -39,14 +40,14 @@ pub fn next_cursor(op: u32, cursor: u32, chosen: u32) -> u32
 }
 
 // Whether a lane's cell is the odd one; `exchanged` is bit 5 of LaneConfig in row 0's lane of the column.
-pub fn is_odd(address: u16, exchanged: bool) -> bool
+pub(crate) fn is_odd(address: u16, exchanged: bool) -> bool
     ensures { λ r. ⌜ r ≡ Load.isOdd address exchanged ⌝ }
 {
     (address / 2 % 2 == 1) | exchanged
 }
 
 // The place of the cell, row times 16 plus column.
-pub fn place(address: u16, lane: u8, odd: bool) -> u32
+pub(crate) fn place(address: u16, lane: u8, odd: bool) -> u32
     ensures { λ r. ⌜ r ≡ Load.placeOf address lane odd ⌝ }
 {
     let row = (address as u32) / 4 * 4 + (lane as u32) / 8;
@@ -54,58 +55,43 @@ pub fn place(address: u16, lane: u8, odd: bool) -> u32
 }
 
 // FP16, the largest number being infinity where `inf` is set.
-pub fn fp16(inf: bool, cell: u16) -> u32
+fn fp16(inf: bool, cell: u16) -> u32
     ensures { λ r. ⌜ r ≡ Load.fp16 inf cell ⌝ }
 {
     let x = cell as u32;
     let largest = inf & ((x % 32 == 31) & (x / 32 % 1024 == 1023));
     if largest {
-        return x / 0x8000 * 0x8000_0000 + 0x7F80_0000;
+        return x / 0x8000 * 0x80000000 + 0x7F800000;
     }
     if x % 32 == 0 {
-        return x / 0x8000 * 0x8000_0000 + x / 32 % 1024 * 0x2000;
+        return x / 0x8000 * 0x80000000 + x / 32 % 1024 * 0x2000;
     }
-    x / 0x8000 * 0x8000_0000 + (x % 32 + 112) * 0x80_0000 + x / 32 % 1024 * 0x2000
+    x / 0x8000 * 0x80000000 + (x % 32 + 112) * 0x800000 + x / 32 % 1024 * 0x2000
 }
 
 // BF16, its exponent and digits changed about.
-pub fn bf16(cell: u16) -> u32
+fn bf16(cell: u16) -> u32
     ensures { λ r. ⌜ r ≡ Load.bf16 cell ⌝ }
 {
     let x = cell as u32;
-    x / 0x8000 * 0x8000_0000 + x % 256 * 0x80_0000 + x / 256 % 128 * 0x1_0000
+    x / 0x8000 * 0x80000000 + x % 256 * 0x800000 + x / 256 % 128 * 0x10000
 }
 
-// INT8, a sign and seven bits of magnitude.
-pub fn int8(cell: u16) -> u32
-    ensures { λ r. ⌜ r ≡ Load.int8 cell ⌝ }
+// A sign and `width` bits of magnitude, from bit `place` up.
+fn sign_mag(cell: u16, place: u32, width: u32) -> u32
+    requires { ⌜ (place < 16) × (width < 16) ⌝ }
+    ensures { λ r. ⌜ r ≡ Load.signMag place width cell ⌝ }
 {
     let x = cell as u32;
-    x / 0x8000 * 0x8000_0000 + x / 32 % 128
-}
-
-// INT16, a sign and fifteen bits of magnitude.
-pub fn int16(cell: u16) -> u32
-    ensures { λ r. ⌜ r ≡ Load.int16 cell ⌝ }
-{
-    let x = cell as u32;
-    x / 0x8000 * 0x8000_0000 + x % 0x8000
-}
-
-// INT8_COMP's first step, a sign and ten bits of magnitude.
-pub fn sign_mag11(cell: u16) -> u32
-    ensures { λ r. ⌜ r ≡ Load.signMag11 cell ⌝ }
-{
-    let x = cell as u32;
-    x / 0x8000 * 0x8000_0000 + x / 32 % 1024
+    x / 0x8000 * 0x80000000 + (x >> place) % (1u32 << width)
 }
 
 // INT8_COMP's last step, sign and magnitude to two's complement.
-pub fn twos_comp(w: u32) -> u32
+fn twos_comp(w: u32) -> u32
     ensures { λ r. ⌜ r ≡ Load.twosComp w ⌝ }
 {
-    let magnitude = w % 0x8000_0000;
-    if w / 0x8000_0000 == 1 {
+    let magnitude = w % 0x80000000;
+    if w / 0x80000000 == 1 {
         wrapping_sub_u32(0, magnitude)
     } else {
         magnitude
@@ -113,17 +99,17 @@ pub fn twos_comp(w: u32) -> u32
 }
 
 // A word with another high half.
-pub fn with_high(old: u32, half: u16) -> u32
+fn with_high(old: u32, half: u16) -> u32
     ensures { λ r. ⌜ r ≡ Load.withHigh old half ⌝ }
 {
-    (half as u32) * 0x1_0000 + old % 0x1_0000
+    (half as u32) * 0x10000 + old % 0x10000
 }
 
 // A word with another low half.
-pub fn with_low(old: u32, half: u16) -> u32
+fn with_low(old: u32, half: u16) -> u32
     ensures { λ r. ⌜ r ≡ Load.withLow old half ⌝ }
 {
-    old / 0x1_0000 * 0x1_0000 + half as u32
+    old / 0x10000 * 0x10000 + half as u32
 }
 
 // What LOAD with mod `m` makes of a cell; `old` is the register's word, of which mods 14 and 15 keep half.
@@ -133,12 +119,12 @@ pub fn loaded(m: u32, inf: bool, old: u32, cell: u16) -> u32
     match m {
         1 => fp16(inf, cell),
         2 => bf16(cell),
-        5 => int8(cell),
+        5 => sign_mag(cell, 5, 7),
         6 => cell as u32,
-        7 => (cell as u32) * 0x1_0000,
-        8 => int16(cell),
+        7 => (cell as u32) * 0x10000,
+        8 => sign_mag(cell, 0, 15),
         9 => cell as u32,
-        13 => twos_comp(sign_mag11(cell)),
+        13 => twos_comp(sign_mag(cell, 5, 10)),
         14 => with_low(old, cell),
         15 => with_high(old, cell),
         _ => 0,
@@ -153,7 +139,7 @@ pub fn resolved(srcb: u32, m: u32) -> u32
 }
 
 // Whether LOAD stores in a lane.
-pub fn loads(vd: u32, config: u32, use_flag: u32, lane_flag: u32) -> bool
+pub(crate) fn loads(vd: u32, config: u32, use_flag: u32, lane_flag: u32) -> bool
     ensures { λ r. ⌜ r ≡ Load.loadsBy vd config «use_flag» «lane_flag» ⌝ }
 {
     (vd < 8) & (enabled(use_flag, lane_flag) & !(config / 2 % 2 == 1))
@@ -170,7 +156,7 @@ pub fn captures(vd: u32, config: u32) -> bool
 pub fn immediate(m: u32, imm: u32, old: u32) -> u32
     ensures { λ r. ⌜ r ≡ Load.immediate m imm old ⌝ }
 {
-    let half = (imm % 0x1_0000) as u16;
+    let half = (imm % 0x10000) as u16;
     if m == 8 {
         with_high(old, half)
     } else {

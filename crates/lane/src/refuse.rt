@@ -28,11 +28,11 @@ pub fn settings_good(s: Settings) -> bool
 pub fn well_formed(config: u32, flag: u32, use_flag: u32, misc: u32) -> bool
     ensures { λ r. ⌜ r ≡ Refusals.wellFormedBy config flag «use_flag» misc ⌝ }
 {
-    (config < 0x4_0000) & (misc < 0x1000) & (flag < 2) & (use_flag < 2)
+    (config < 0x40000) & (misc < 0x1000) & (flag < 2) & (use_flag < 2)
 }
 
 // Whether mod `m` is among those of a mask.
-pub fn mod_allowed(mask: u32, m: u32) -> bool
+fn mod_allowed(mask: u32, m: u32) -> bool
     ensures { λ r. ⌜ r ≡ Refusals.modIn mask m ⌝ }
 {
     if m < 16 { (mask >> m) % 2 == 1 } else { false }
@@ -52,7 +52,7 @@ fn row(imm: u32, vb: u32, vc: u32, vd: u32, mods: u32) -> Limits
 }
 
 // The table of fields: for each op the largest imm, vb, vc and vd, and the mods allowed, mod m as bit m. A number that is no op has none.
-pub fn limits_of(op: u32) -> Limits
+fn limits_of(op: u32) -> Limits
     ensures { λ r. ⌜ r ≡ Refusals.limitsOf op ⌝ }
 {
     match op {
@@ -91,7 +91,7 @@ pub fn limits_of(op: u32) -> Limits
 }
 
 // Whether every field is in its range.
-pub fn fields_good(i: Insn) -> bool
+fn fields_good(i: Insn) -> bool
     ensures { λ r. ⌜ r ≡ Refusals.fieldsGood (i .op) i ⌝ }
 {
     let limits = limits_of(i.op);
@@ -129,7 +129,7 @@ fn lane_good(own: [u32; 24]) -> bool
 }
 
 // The refusals of the lane rules: 3, 6, 7, 8 and 9, or 0.
-pub fn lane_answer(s: Settings, lane: u32, i: Insn, own: [u32; 24], head: [u32; 24]) -> u32
+pub(crate) fn lane_answer(s: Settings, lane: u32, i: Insn, own: [u32; 24], head: [u32; 24]) -> u32
     ensures { λ r. ⌜ r ≡ Refusals.laneAnswer s lane i (laneOf own) (laneOf head) ⌝ }
 {
     if settings_good(s) {

@@ -35,6 +35,8 @@ use crate::swap::swaps;
 use crate::words::LANE_CONFIG;
 use crate::words::LANE_FLAG;
 use crate::words::MISC;
+use crate::words::SEQUENCE;
+use crate::words::TEMPLATE;
 use crate::words::USE_FLAG;
 use crate::words::enabled;
 use crate::words::fixed_word;
@@ -98,7 +100,7 @@ fn word_and_flag(own: [u32; 24], vd: u32, word: u32, flag: u32) -> [u32; 24]
 {
     let computes = (vd < 8) & enabled(own[USE_FLAG], own[LANE_FLAG]);
     if computes {
-        put(put(own, vd, word), 13, flag)
+        put(put(own, vd, word), LANE_FLAG as u32, flag)
     } else {
         own
     }
@@ -239,7 +241,7 @@ fn config_high(edition: u32, i: Insn, first: u32, own: [u32; 24]) -> [u32; 24]
     let vd = i.vd;
     let value = value_of(i.md, i.imm, first);
     if vd == 8 {
-        return put(own, 23, misc_after(i.md, own[MISC], value));
+        return put(own, MISC as u32, misc_after(i.md, own[MISC], value));
     }
     if vd < 11 {
         return own;
@@ -247,7 +249,11 @@ fn config_high(edition: u32, i: Insn, first: u32, own: [u32; 24]) -> [u32; 24]
     if vd < 15 {
         return put(own, vd - 3, constant_after(edition, i.md, vd, first));
     }
-    put(own, 12, lane_config_after(i.md, own[LANE_CONFIG], value))
+    put(
+        own,
+        LANE_CONFIG as u32,
+        lane_config_after(i.md, own[LANE_CONFIG], value),
+    )
 }
 
 // CONFIG's store: a template, a sequence, or one of those above.
@@ -256,10 +262,14 @@ fn config_words(edition: u32, i: Insn, first: u32, own: [u32; 24]) -> [u32; 24]
 {
     let vd = i.vd;
     if vd < 4 {
-        return put(own, 15 + vd, first);
+        return put(own, TEMPLATE as u32 + vd, first);
     }
     if vd < 8 {
-        return put(own, 19 + (vd - 4), value_of(i.md, i.imm, first));
+        return put(
+            own,
+            SEQUENCE as u32 + (vd - 4),
+            value_of(i.md, i.imm, first),
+        );
     }
     config_high(edition, i, first, own)
 }

@@ -2,12 +2,16 @@
 ghost use mathlib.Core.Path.{_≡_};
 ghost use Rattle.lane.specs.Words as Words;
 
-// The slots after the registers.
+// The slots after the registers; of the templates and of the sequences, the first.
 pub const LANE_CONFIG: usize = 12;
 
 pub const LANE_FLAG: usize = 13;
 
 pub const USE_FLAG: usize = 14;
+
+pub const TEMPLATE: usize = 15;
+
+pub const SEQUENCE: usize = 19;
 
 pub const MISC: usize = 23;
 
@@ -30,11 +34,11 @@ pub fn fixed_word(r: u32, lane: u8) -> u32
     ensures { λ w. ⌜ w ≡ Words.fixedWord r lane ⌝ }
 {
     if r == 8 {
-        0x3F56_6189
+        0x3F566189
     } else if r == 9 {
         0
     } else if r == 10 {
-        0x3F80_0000
+        0x3F800000
     } else {
         2 * (lane as u32)
     }

@@ -1,5 +1,6 @@
 use borrow.Author.Needs.{needs}
 use borrow.Author.Tests.{ne-eqb}
+use native.Mathlib.Omega.{arith}
 use Rattle.lane.proofs.load.loaded.Statement.{statement}
 use Rattle.lane.specs.Load.{loaded}
 use Rattle.lane.specs.Words.{pick}
@@ -11,17 +12,17 @@ fp16-requires c κs = search needs
 bf16-requires : tie.Need-bf16-requires
 bf16-requires c κs = search needs
 
-int8-requires : tie.Need-int8-requires
-int8-requires c κs = search needs
+sign-mag-requires : tie.Need-sign-mag-requires
+sign-mag-requires c κs = omega arith
 
 mul-result : tie.Need-mul-result
 mul-result c = search needs
 
-int16-requires : tie.Need-int16-requires
-int16-requires c κs = search needs
+sign-mag-requires-2 : tie.Need-sign-mag-requires-2
+sign-mag-requires-2 c κs = omega arith
 
-sign-mag11-requires : tie.Need-sign-mag11-requires
-sign-mag11-requires c κs = search needs
+sign-mag-requires-3 : tie.Need-sign-mag-requires-3
+sign-mag-requires-3 c κs = omega arith
 
 twos-comp-requires : tie.Need-twos-comp-requires
 twos-comp-requires c κs = search needs
@@ -42,7 +43,7 @@ returns-2 c = simp (c .before .match .keys2, c .bf16 .ensures)
 
 returns-3 : tie.Need-returns-3
 unfolding loaded pick
-returns-3 c = simp (c .before .match .keys3, c .int8 .ensures)
+returns-3 c = simp (c .before .match .keys3, c .sign-mag .ensures)
 
 returns-4 : tie.Need-returns-4
 unfolding loaded pick
@@ -54,7 +55,7 @@ returns-5 c = simp (c .match .keys5)
 
 returns-6 : tie.Need-returns-6
 unfolding loaded pick
-returns-6 c = simp (c .before .match .keys6, c .int16 .ensures)
+returns-6 c = simp (c .before .match .keys6, c .sign-mag2 .ensures)
 
 returns-7 : tie.Need-returns-7
 unfolding loaded pick
@@ -62,7 +63,7 @@ returns-7 c = simp (c .match .keys7)
 
 returns-8 : tie.Need-returns-8
 unfolding loaded pick
-returns-8 c = simp (c .before .before .match .keys8, c .twos-comp .ensures, c .before .sign-mag11 .ensures)
+returns-8 c = simp (c .before .before .match .keys8, c .twos-comp .ensures, c .before .sign-mag3 .ensures)
 
 returns-9 : tie.Need-returns-9
 unfolding loaded pick
@@ -82,10 +83,10 @@ loaded-spec =
     (tie.spec
     fp16-requires
     bf16-requires
-    int8-requires
+    sign-mag-requires
     mul-result
-    int16-requires
-    sign-mag11-requires
+    sign-mag-requires-2
+    sign-mag-requires-3
     twos-comp-requires
     with-low-requires
     with-high-requires

@@ -11,14 +11,14 @@ float-of-requires c κs = search needs
 serving-requires : tie.Need-serving-requires
 serving-requires c κs = search needs
 
-line-of-requires : tie.Need-line-of-requires
-line-of-requires c κs = search needs
+piece-of-requires : tie.Need-piece-of-requires
+piece-of-requires c κs = search needs
 
 sum-of-requires : tie.Need-sum-of-requires
 sum-of-requires c κs = search needs
 
 returns : tie.Need-returns
-returns c = simp (c .sum-of .ensures, c .before .line-of .ensures, c .before .before .serving .ensures, c .before .before .before .float-of .ensures, c .before .before .before .before .input-bits .ensures)
+returns c = simp (c .sum-of .ensures, c .before .piece-of .ensures, c .before .before .serving .ensures, c .before .before .before .float-of .ensures, c .before .before .before .before .input-bits .ensures)
 
 pub lut-result-spec : {M : Type 1} → statement M
 lut-result-spec =
@@ -27,6 +27,6 @@ lut-result-spec =
     input-bits-requires
     float-of-requires
     serving-requires
-    line-of-requires
+    piece-of-requires
     sum-of-requires
     returns)

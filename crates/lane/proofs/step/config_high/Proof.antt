@@ -9,6 +9,9 @@ use Rattle.lane.proofs.step.config_high.Tie as tie
 value-of-requires : tie.Need-value-of-requires
 value-of-requires c κs = search needs
 
+cast-put : tie.Need-cast-put
+cast-put c = search needs
+
 array-read-misc-after : tie.Need-array-read-misc-after
 array-read-misc-after c = search needs
 
@@ -39,6 +42,9 @@ returns-3 : tie.Need-returns-3
 unfolding highStore
 returns-3 c = choose-false _ _ _ _ _ (ne-eqb _ _ (c .before .before .before .before .if1 .left)) (choose-false _ _ _ _ _ (le-ltb _ _ (c .before .before .before .if2 .left)) (choose-true _ _ _ _ _ (lt-ltb _ _ (c .before .before .if3 .taken)) (rw (c .before .constant-after .ensures) at (c .put2 .ensures))))
 
+cast-put-2 : tie.Need-cast-put-2
+cast-put-2 c = search needs
+
 array-read-lane-config-after : tie.Need-array-read-lane-config-after
 array-read-lane-config-after c = search needs
 
@@ -57,6 +63,7 @@ config-high-spec =
     tie.close
     (tie.spec
     value-of-requires
+    cast-put
     array-read-misc-after
     misc-after-requires
     put-requires
@@ -66,6 +73,7 @@ config-high-spec =
     constant-after-requires
     put-requires-2
     returns-3
+    cast-put-2
     array-read-lane-config-after
     lane-config-after-requires
     put-requires-3

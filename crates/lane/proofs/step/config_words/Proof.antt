@@ -5,6 +5,9 @@ use Rattle.lane.proofs.step.config_words.Statement.{statement}
 use Rattle.lane.specs.Config.{configStore}
 use Rattle.lane.proofs.step.config_words.Tie as tie
 
+cast-put : tie.Need-cast-put
+cast-put c = search needs
+
 add-put : tie.Need-add-put
 add-put c = search needs
 
@@ -14,6 +17,9 @@ put-requires c κs = search needs
 returns : tie.Need-returns
 unfolding configStore
 returns c = choose-true _ _ _ _ _ (lt-ltb _ _ (c .before .if1 .taken)) (c .put .ensures)
+
+cast-put-2 : tie.Need-cast-put-2
+cast-put-2 c = search needs
 
 add-put-2 : tie.Need-add-put-2
 add-put-2 c = search needs
@@ -39,9 +45,11 @@ pub config-words-spec : {M : Type 1} → statement M
 config-words-spec =
     tie.close
     (tie.spec
+    cast-put
     add-put
     put-requires
     returns
+    cast-put-2
     add-put-2
     value-of-requires
     put-requires-2

@@ -17,6 +17,9 @@ enabled-requires c κs = search needs
 put-requires : tie.Need-put-requires
 put-requires c κs = search needs
 
+cast-put : tie.Need-cast-put
+cast-put c = search needs
+
 put-requires-2 : tie.Need-put-requires-2
 put-requires-2 c κs = search needs
 
@@ -36,6 +39,7 @@ word-and-flag-spec =
     array-read-enabled-2
     enabled-requires
     put-requires
+    cast-put
     put-requires-2
     returns
     returns-2)

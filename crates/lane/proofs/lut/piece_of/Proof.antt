@@ -1,6 +1,6 @@
 use borrow.Author.Needs.{needs}
-use Rattle.lane.proofs.lut.line_of.Statement.{statement}
-use Rattle.lane.proofs.lut.line_of.Tie as tie
+use Rattle.lane.proofs.lut.piece_of.Statement.{statement}
+use Rattle.lane.proofs.lut.piece_of.Tie as tie
 
 cast-high : tie.Need-cast-high
 cast-high c = search needs
@@ -23,8 +23,8 @@ float-of-requires-2 c κs = search needs
 returns : tie.Need-returns
 returns c = simp (c .before .before .float-of .ensures, c .float-of2 .ensures, c .before .before .before .byte-word .ensures, c .before .byte-word2 .ensures)
 
-pub line-of-spec : {M : Type 1} → statement M
-line-of-spec =
+pub piece-of-spec : {M : Type 1} → statement M
+piece-of-spec =
     tie.close
     (tie.spec
     cast-high
