@@ -16,8 +16,8 @@ use Rattle.lane.specs.Compute.{computes, wordOnly, wordAndFlag, flagAfter, lzOp
 use Rattle.lane.proofs.Cases.{pick-true, pick-false, has-one}
 use Rattle.lane.proofs.Stores.{upd-same, upd-other}
 use Rattle.runner.specs.Image.{laneIn}
-use Rattle.runner.specs.Rows.{row, Enabled, storing}
-use Rattle.runner.specs.ComputeRows.{setsFlags, withMod, lzLimit, lzCount, lzFrom, wordOf, truthOf, wordWith, flaggedWith}
+use Rattle.runner.specs.PrivateRows.{Enabled, storing}
+use Rattle.runner.specs.PrivateCompute.{setsFlags, withMod, lzLimit, lzCount, lzFrom, wordOf, truthOf, wordWith, flaggedWith}
 use Rattle.runner.proofs.Lanes.{same-lanes}
 use Rattle.runner.proofs.Enabled.{quiet-enabled}
 use Rattle.runner.proofs.Quiet.{quiet-word}

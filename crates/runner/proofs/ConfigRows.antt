@@ -13,8 +13,8 @@ use Rattle.lane.specs.Words.{pick, has, bit, Lane, Stores, laneFlag, useFlag}
 use Rattle.lane.specs.Config.{passedOver, highStore, configStore, configWith, config}
 use Rattle.lane.proofs.Cases.{pick-true, pick-false}
 use Rattle.runner.specs.Image.{laneIn}
-use Rattle.runner.specs.Rows.{row, full, storing}
-use Rattle.runner.specs.ConfigRows.{columns, reached, reachedIn, configSlot, configValue, written}
+use Rattle.runner.specs.PrivateRows.{row, full, storing}
+use Rattle.runner.specs.PrivateConfig.{columns, reached, reachedIn, configSlot, configValue, written}
 use Rattle.runner.proofs.Lanes.{split, storing-same}
 use Rattle.runner.proofs.Filled.{Spread, columns-more, spread-end, operand}
 

@@ -12,7 +12,7 @@ use Rattle.lane.specs.Words.{pick, Lane, Stores, enabled, upd, after}
 use Rattle.lane.proofs.Cases.{pick-false}
 use Rattle.lane.proofs.Stores.{upd-other}
 use Rattle.runner.specs.Image.{laneIn}
-use Rattle.runner.specs.Rows.{full, Enabled, storing, storingIn}
+use Rattle.runner.specs.PrivateRows.{full, Enabled, storing, storingIn}
 use Rattle.runner.proofs.Lanes.{Turned, turn-lane, lane-storing}
 use Rattle.runner.proofs.Filled.{Spread}
 

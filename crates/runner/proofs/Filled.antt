@@ -8,7 +8,7 @@ use lib.ListN.{length, getD, set, length-set}
 use lib.Seq.{ext-getD, getD-set-same, getD-set-other}
 use Rattle.lane.specs.Words.{build}
 use Rattle.lane.proofs.Stores.{length-build, getD-build, build-same}
-use Rattle.runner.specs.Rows.{row}
+use Rattle.runner.specs.PrivateRows.{row}
 
 -- the first n words are f's
 pub record Filled (f : ℕ → ℕ) (n : ℕ) (words : List ℕ) : Type 0 where

@@ -14,7 +14,7 @@ use Rattle.lane.specs.Words.{pick, Lane, Stores, build, upd, after}
 use Rattle.lane.proofs.Cases.{pick-true, pick-false}
 use Rattle.lane.proofs.Stores.{length-build, getD-build, build-same, upd-same, upd-other, after-agree, after-append}
 use Rattle.runner.specs.Image.{laneIn, ofLanes}
-use Rattle.runner.specs.Rows.{storing, storingIn}
+use Rattle.runner.specs.PrivateRows.{storing, storingIn}
 
 -- one order or the other
 pub split {ℓ} : {X : Type ℓ} (a b : ℕ) → (b ≤ a → X) → (a < b → X) → X

@@ -1,4 +1,4 @@
--- Laws of the checks, of images and loops over lanes, and what a run does to a column.
+-- The laws that the proofs of this crate and of the crates above it cite: of the checks, of images, and of loops over lanes.
 pub mod Scan
 pub mod Masks
 pub mod Lanes
@@ -13,9 +13,6 @@ pub mod LoadRows
 pub mod SwapRows
 pub mod LutRows
 pub mod ConfigRows
+pub mod Accepted
 pub mod Steps
 pub mod Views
-pub mod Kept
-pub mod Isolation
-pub mod Runs
-pub mod Cut

@@ -15,8 +15,8 @@ use Rattle.lane.proofs.Cases.{pick-false, pick-lt, has-one}
 use Rattle.lane.proofs.Stores.{getD-build, upd-other}
 use Rattle.runner.specs.Image.{laneIn}
 use Rattle.runner.specs.Run.{evenCell, oddCell}
-use Rattle.runner.specs.Rows.{storing, storingIn, row, full, Enabled}
-use Rattle.runner.specs.LoadRows.{oddAt, oddIn, isOpen, openIn, cellOf, loadedAt, loadedOnly, capturedOnly}
+use Rattle.runner.specs.PrivateRows.{storing, storingIn, row, full, Enabled}
+use Rattle.runner.specs.PrivateLoad.{oddAt, oddIn, isOpen, openIn, cellOf, loadedAt, loadedOnly, capturedOnly}
 use Rattle.runner.proofs.Lanes.{storing-same, storing-then, lane-storing, Turned, turn-lane, turn-more}
 use Rattle.runner.proofs.Filled.{Spread, put-holds, columns-more, operand, row-same}
 
@@ -177,7 +177,7 @@ module _ (image x : List ℕ) (vd m : ℕ) (cell : ℕ → ℕ) (h : vd < 8) (p 
       row-same _ _
       (λ L l. cc (slot-kept L 12 l (omega arith) (omega arith), slot-kept L 13 l (omega arith) (omega arith), slot-kept L 14 l (omega arith) (omega arith)))
 
-  pub load-both : (y : List ℕ) (place : ℕ → ℕ) → y ≡ storing x (λ L. capturedOnly vd (place L) (laneIn x L))
+  load-both : (y : List ℕ) (place : ℕ → ℕ) → y ≡ storing x (λ L. capturedOnly vd (place L) (laneIn x L))
       → y ≡ storing image (λ L. loadWith vd m (cell L) (place L) (laneIn image L))
   unfolding loadedOnly capturedOnly loadWith
   load-both y place q =

@@ -19,8 +19,8 @@ use Rattle.lane.specs.Lut.{lutAnswer, lutStores, lutRegister, lutWith, lut}
 use Rattle.lane.proofs.Cases.{pick-true, pick-false}
 use Rattle.lane.proofs.Stores.{upd-same, upd-other}
 use Rattle.runner.specs.Image.{laneIn}
-use Rattle.runner.specs.Rows.{storing, storingIn, full}
-use Rattle.runner.specs.LutRows.{isSet, resultIn, answered, storedWord, storedSlot, Answers}
+use Rattle.runner.specs.PrivateRows.{storing, storingIn, full}
+use Rattle.runner.specs.PrivateLut.{isSet, resultIn, answered, storedWord, storedSlot, Answers}
 use Rattle.runner.proofs.Lanes.{same-lanes}
 use Rattle.runner.proofs.Filled.{none-below}
 

@@ -7,7 +7,7 @@ use borrow.Author.Tests.{lt-ltb, le-ltb}
 use Rattle.lane.specs.Words.{pick, Lane, Stores, enabled}
 use Rattle.lane.specs.Compute.{computes, wordOnly, wordAndFlag}
 use Rattle.lane.proofs.Cases.{pick-false}
-use Rattle.runner.specs.Rows.{storingIn}
+use Rattle.runner.specs.PrivateRows.{storingIn}
 use Rattle.runner.proofs.Lanes.{in-then, pick-append}
 
 computes-is : (vd : ℕ) (own : Lane) (t : Bool) → vd < 8 → t ≡ enabled own → computes vd own ≡ t

@@ -6,7 +6,7 @@ use native.Mathlib.Omega.{arith}
 use mathlib.Core.Bool.{Bool, true, false}
 use lib.Bits.{differ, bitAnd, bitXor, xor-step, xor-shr, xor-mod, xor-lt, xor-zero-r, and-mask, and-zero-r}
 use Rattle.lane.specs.Words.{pick}
-use Rattle.runner.specs.Rows.{full}
+use Rattle.runner.specs.PrivateRows.{full}
 
 -- ---- exclusive or with the same word twice
 

@@ -14,7 +14,7 @@ use Rattle.lane.proofs.Cases.{pick-true, pick-false}
 use Rattle.lane.proofs.Stores.{getD-build}
 use lib.ListN.{getD}
 use Rattle.runner.specs.Image.{laneIn}
-use Rattle.runner.specs.Rows.{row, fixedRegister, fixedRows, registerOf}
+use Rattle.runner.specs.PrivateRows.{row, fixedRegister, fixedRows, registerOf}
 use Rattle.runner.proofs.Lanes.{split}
 use Rattle.runner.proofs.Filled.{row-same}
 use Rattle.runner.proofs.Made.{no-word, no-word-and-flag}

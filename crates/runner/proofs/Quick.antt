@@ -18,7 +18,7 @@ use Rattle.lane.proofs.Tables.{and-left, and-right, allBelow, below-all}
 use Rattle.lane.proofs.Cases.{pick-true, pick-false}
 use Rattle.runner.specs.Image.{laneIn, lanesGood}
 use Rattle.runner.proofs.Lanes.{split}
-use Rattle.runner.specs.Quick.{past, over, plainMods, overOf, modPlace, noneOver, plain}
+use Rattle.runner.specs.PrivateQuick.{past, over, plainMods, overOf, modPlace, noneOver, plain}
 
 -- ---- bits past a limit
 

@@ -1,9 +1,11 @@
--- The scan over a list's instructions, turn by turn, and the well formed lanes. Assumes nothing.
+-- The scan over a list's instructions, turn by turn, and an instruction's six words. Assumes nothing.
 use mathlib.Core.Path.{_≡_, ap, _∙_}
-use Prim.Native.Nat.{ℕ, suc, _+_, _-_, _<_, _≤_}
+use Prim.Native.Nat.{ℕ, suc, _+_, _-_, _*_, _<_, _≤_}
 use native.Mathlib.Omega.{arith}
 use mathlib.Core.Bool.{true}
-use mathlib.Core.List.{List}
+use mathlib.Core.List.{List, [], _∷_, _++_}
+use lib.ListN.{length, drop}
+use lib.Seq.{drop-cons}
 use lib.Dec.{eqb}
 use borrow.Author.Tests.{eq-eqb, ne-eqb}
 use Rattle.lane.specs.Refusals.{instructionAnswer}
@@ -45,3 +47,31 @@ scan-start list n = ap (λ (m : ℕ). scan list 0 m) (whole n)
   where
     whole : (n : ℕ) → n ≡ n - 0
     whole n = omega arith
+
+-- the six words of instruction k, and those after it
+pub insn-words : (list : List ℕ) (k : ℕ) → 6 * k + 6 ≤ length list
+    → drop (6 * k) list
+    ≡ (insnAt list k .op ∷ insnAt list k .imm ∷ insnAt list k .vb ∷ insnAt list k .vc ∷ insnAt list k .vd ∷ insnAt list k .md ∷ [])
+    ++ drop (6 * (k + 1)) list
+unfolding insnAt
+insn-words list k h =
+    let e0 : suc (6 * k) ≡ 6 * k + 1 = omega arith in
+    let e1 : suc (6 * k + 1) ≡ 6 * k + 2 = omega arith in
+    let e2 : suc (6 * k + 2) ≡ 6 * k + 3 = omega arith in
+    let e3 : suc (6 * k + 3) ≡ 6 * k + 4 = omega arith in
+    let e4 : suc (6 * k + 4) ≡ 6 * k + 5 = omega arith in
+    let e5 : suc (6 * k + 5) ≡ 6 * (k + 1) = omega arith in
+    rw (
+      drop-cons list (6 * k) 0 (omega arith),
+      e0,
+      drop-cons list (6 * k + 1) 0 (omega arith),
+      e1,
+      drop-cons list (6 * k + 2) 0 (omega arith),
+      e2,
+      drop-cons list (6 * k + 3) 0 (omega arith),
+      e3,
+      drop-cons list (6 * k + 4) 0 (omega arith),
+      e4,
+      drop-cons list (6 * k + 5) 0 (omega arith),
+      e5,
+    )

@@ -1,29 +1,26 @@
--- One instruction over all lanes, the steps through a list, and what an accepted run was checked for. Assumes nothing.
+-- One instruction over all lanes, the steps through a list, and a run. Assumes nothing.
 use mathlib.Core.Path.{_≡_, refl, sym, ap, _∙_}
-use Prim.Native.Nat.{ℕ, zero, suc, _+_, _/_, _%_, _≤_}
+use Prim.Native.Nat.{ℕ, zero, suc, _+_, _%_, _≤_}
 use native.Mathlib.Numerals.{add-one}
-use native.Mathlib.Omega.{arith}
-use mathlib.Core.Bool.{Bool, true, false, _&&_}
+use mathlib.Core.Bool.{true, false}
 use mathlib.Core.List.{List, []}
 use lib.ListN.{length}
-use lib.Dec.{eqb, leb}
-use borrow.Author.Tests.{eq-eqb, ne-eqb, eqb-true, leb-true}
+use lib.Dec.{eqb}
+use borrow.Author.Tests.{eq-eqb, ne-eqb}
 use Rattle.lane.specs.declared.Settings.{Settings}
 use Rattle.lane.specs.declared.Insn.{Insn}
-use Rattle.lane.specs.Words.{pick, bit, Lane, Stores, after}
+use Rattle.lane.specs.Words.{pick, bit, Lane, Stores}
 use Rattle.lane.specs.Load.{address, stride, nextCursor, load}
 use Rattle.lane.specs.Compute.{valueWord, valuedWith, valued}
 use Rattle.lane.specs.Rule.{lanewise, storesOf}
-use Rattle.lane.specs.Refusals.{settingsGood}
-use Rattle.lane.proofs.Tables.{and-left, and-right}
 use Rattle.lane.proofs.Cases.{pick-true, pick-false}
 use Rattle.runner.specs.declared.Found.{Found}
-use Rattle.runner.specs.declared.Outcome.{Outcome}
-use Rattle.runner.specs.Image.{laneIn, imageGood}
-use Rattle.runner.specs.Checks.{insnAt, countOf, found, scanned, lengthsFirst, runListAnswer, runAnswer}
-use Rattle.runner.specs.Run.{Machine, evenCell, oddCell, laneAfter, imageAt, imageAfter, stepImage, cursorAfter, stepped, steps, finish, outcomeOf, runImage}
-use Rattle.runner.specs.Rows.{storing, Enabled}
-use Rattle.runner.specs.StepRows.{Stored, Left, from}
+use Rattle.runner.specs.Image.{laneIn}
+use Rattle.runner.specs.Checks.{insnAt, countOf, runAnswer}
+use Rattle.runner.specs.Run.{Machine, evenCell, oddCell, laneAfter, imageAt, imageAfter, cursorAfter, stepped, steps, finish, outcomeOf, runImage, Ran}
+use Rattle.runner.specs.PrivateRows.{storing, Enabled}
+use Rattle.runner.specs.PrivateSteps.{Stored, Left, from}
+use Rattle.runner.proofs.Accepted.{accepted, given-short}
 use Rattle.runner.proofs.Enabled.{Quiet, quiet-enabled}
 use Rattle.runner.proofs.Quiet.{quiet-load}
 use Rattle.runner.proofs.Lanes.{storing-same, storing-none, length-lanes}
@@ -102,20 +99,6 @@ load-left s i cursor a next image dst x go o ea en g p =
         → load (s .srcb) a i L (bit (laneIn image (L % 8) 12) 5) (evenCell dst a L) (oddCell dst a L) (laneIn image L) ≡ storesAt s i a image dst L
     is-load L = load-stores (i .op) s a i L (laneIn image (L % 8)) (evenCell dst a L) (oddCell dst a L) (laneIn image L) o
 
--- one instruction over an image and a Dst of any length
-pub both-sized : (a b : ℕ) → (eqb a 768 && eqb b 16384) ≡ true → (a ≡ 768) × (b ≡ 16384)
-both-sized a b h = (eqb-true a 768 (and-left (eqb a 768) (eqb b 16384) h), eqb-true b 16384 (and-right (eqb a 768) (eqb b 16384) h))
-
-pub step-sized : (s : Settings) (i : Insn) (cursor : ℕ) (image dst x : List ℕ) → (eqb (length image) 768 && eqb (length dst) 16384) ≡ true
-    → x ≡ imageAfter s i cursor image dst → x ≡ stepImage s i cursor image dst
-unfolding stepImage
-step-sized s i cursor image dst x h p = p ∙ sym (pick-true (eqb (length image) 768 && eqb (length dst) 16384) (imageAfter s i cursor image dst) image h)
-
-pub step-other : (s : Settings) (i : Insn) (cursor : ℕ) (image dst : List ℕ) → (eqb (length image) 768 && eqb (length dst) 16384) ≡ false
-    → image ≡ stepImage s i cursor image dst
-unfolding stepImage
-step-other s i cursor image dst h = sym (pick-false (eqb (length image) 768 && eqb (length dst) 16384) (imageAfter s i cursor image dst) image h)
-
 pub length-after : (s : Settings) (i : Insn) (cursor : ℕ) (image dst : List ℕ) → length (imageAfter s i cursor image dst) ≡ 768
 unfolding imageAfter imageAt
 length-after s i cursor image dst = length-lanes (laneAfter s i (address (i .imm) (s .offset) cursor) image dst)
@@ -176,46 +159,6 @@ reached-end s list dst start first k cursor image go h e = (
   h .image-is ∙ ap (λ (n : ℕ). steps s list n (starting first start dst) .image) e,
 )
 
--- a list of one instruction
-pub one-step : (s : Settings) (i : Insn) (cursor : ℕ) (image dst list : List ℕ) → length list ≡ 6 → insnAt list 0 ≡ i
-    → (from s cursor image dst list .cursor ≡ cursorAfter s i cursor) × (from s cursor image dst list .image ≡ imageAfter s i cursor image dst)
-unfolding steps stepped
-one-step s i cursor image dst list e k = (
-  ap (λ (n : ℕ). steps s list (n / 6) (starting cursor image dst) .cursor) e ∙ ap (λ (x : Insn). cursorAfter s x cursor) k,
-  ap (λ (n : ℕ). steps s list (n / 6) (starting cursor image dst) .image) e ∙ ap (λ (x : Insn). imageAfter s x cursor image dst) k,
-)
-
--- ---- the checks
-
-pub onward : (t : Bool) (x : Found) (n p : ℕ) → pick t x (found (n + 1) p) .answer ≡ 0 → (t ≡ true) × (x .answer ≡ 0)
-unfolding pick
-onward true x n p h = (refl, h)
-onward false x n p h = absurd (none n h)
-  where
-    none : (n : ℕ) → n + 1 ≡ 0 → ⊥
-    none n h = omega arith
-
-pub record Sized (image dst list : List ℕ) : Type 0 where
-  pub image-long : length image ≡ 768
-  pub dst-long : length dst ≡ 16384
-  pub list-short : length list ≤ 6144
-
-pub accepted-sized : (s : Settings) (image dst list : List ℕ) → runAnswer s image dst list .answer ≡ 0 → Sized image dst list
-unfolding runAnswer runListAnswer lengthsFirst
-accepted-sized s image dst list h =
-    let a = onward (eqb (length image) 768) (pick (eqb (length dst) 16384) (runListAnswer s image list) (found 2 0)) 0 0 h in
-    let b = onward (eqb (length dst) 16384) (runListAnswer s image list) 1 0 (a .1) in
-    let c = onward (settingsGood s) (lengthsFirst list (pick (imageGood image) (scanned list) (found 6 0))) 2 0 (b .1) in
-    let d = onward (eqb (length list % 6) 0) (pick (leb (countOf list) 1024) (pick (imageGood image) (scanned list) (found 6 0)) (found 5 0)) 3 0 (c .1) in
-    let e = onward (leb (countOf list) 1024) (pick (imageGood image) (scanned list) (found 6 0)) 4 0 (d .1) in
-    let whole : length list % 6 ≡ 0 = eqb-true (length list % 6) 0 (d .0) in
-    let few : length list / 6 ≤ 1024 = leb-true (length list / 6) 1024 (e .0) in
-    record {
-      image-long = eqb-true (length image) 768 (a .0);
-      dst-long = eqb-true (length dst) 16384 (b .0);
-      list-short = omega arith;
-    }
-
 -- ---- a run
 
 module _ (s : Settings) (image dst list : List ℕ) (f : Found) (e : f ≡ runAnswer s image dst list) where
@@ -225,27 +168,29 @@ module _ (s : Settings) (image dst list : List ℕ) (f : Found) (e : f ≡ runAn
   other-is : (f .answer ≡ 0 → ⊥) → eqb (runAnswer s image dst list .answer) 0 ≡ false
   other-is h = ne-eqb (runAnswer s image dst list .answer) 0 (λ z. h (ap (λ (x : Found). x .answer) e ∙ z))
 
-  pub run-sized : f .answer ≡ 0 → Sized image dst list
-  run-sized h = accepted-sized s image dst list (sym (ap (λ (x : Found). x .answer) e) ∙ h)
+  pub run-sized : f .answer ≡ 0 → (length image ≡ 768) × ((length dst ≡ 16384) × (length list ≤ 6144))
+  run-sized h =
+      let a = accepted s image dst list (sym (ap (λ (x : Found). x .answer) e) ∙ h) .passed in (a .image-long, (a .dst-long, given-short s list (a .list-given)))
 
-  pub done-outcome : (cursor : ℕ) → f .answer ≡ 0 → cursor ≡ finish s image dst list .cursor
-      → _≡_ {A = Outcome} (record { answer = 0; steps = countOf list; place = 0; cursor = cursor }) (outcomeOf s image dst list)
-  unfolding outcomeOf
-  done-outcome cursor h p =
-      ap (λ (c : ℕ). record { answer = 0; steps = countOf list; place = 0; cursor = c }) p
-      ∙ sym (pick-true (eqb (runAnswer s image dst list .answer) 0) _ _ (zero-is h))
+  -- done
+  pub ran-done : (cursor : ℕ) (x : List ℕ) → f .answer ≡ 0 → cursor ≡ finish s image dst list .cursor → x ≡ finish s image dst list .image
+      → Ran s image dst list (record { answer = 0; steps = countOf list; place = 0; cursor = cursor }) x
+  unfolding outcomeOf runImage
+  ran-done cursor x h p q =
+      record {
+        outcome-is =
+            ap (λ (c : ℕ). record { answer = 0; steps = countOf list; place = 0; cursor = c }) p
+            ∙ sym (pick-true (eqb (runAnswer s image dst list .answer) 0) _ _ (zero-is h));
+        image-is = q ∙ sym (pick-true (eqb (runAnswer s image dst list .answer) 0) (finish s image dst list .image) image (zero-is h));
+      }
 
-  pub done-image : (x : List ℕ) → f .answer ≡ 0 → x ≡ finish s image dst list .image → x ≡ runImage s image dst list
-  unfolding runImage
-  done-image x h p = p ∙ sym (pick-true (eqb (runAnswer s image dst list .answer) 0) (finish s image dst list .image) image (zero-is h))
-
-  pub refused-outcome : (f .answer ≡ 0 → ⊥)
-      → _≡_ {A = Outcome} (record { answer = f .answer; steps = 0; place = f .place; cursor = s .cursor }) (outcomeOf s image dst list)
-  unfolding outcomeOf
-  refused-outcome h =
-      ap (λ (x : Found). record { answer = x .answer; steps = 0; place = x .place; cursor = s .cursor }) e
-      ∙ sym (pick-false (eqb (runAnswer s image dst list .answer) 0) _ _ (other-is h))
-
-  pub refused-image : (f .answer ≡ 0 → ⊥) → image ≡ runImage s image dst list
-  unfolding runImage
-  refused-image h = sym (pick-false (eqb (runAnswer s image dst list .answer) 0) (finish s image dst list .image) image (other-is h))
+  -- refused
+  pub ran-refused : (f .answer ≡ 0 → ⊥) → Ran s image dst list (record { answer = f .answer; steps = 0; place = f .place; cursor = s .cursor }) image
+  unfolding outcomeOf runImage
+  ran-refused h =
+      record {
+        outcome-is =
+            ap (λ (x : Found). record { answer = x .answer; steps = 0; place = x .place; cursor = s .cursor }) e
+            ∙ sym (pick-false (eqb (runAnswer s image dst list .answer) 0) _ _ (other-is h));
+        image-is = sym (pick-false (eqb (runAnswer s image dst list .answer) 0) (finish s image dst list .image) image (other-is h));
+      }

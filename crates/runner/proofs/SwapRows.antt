@@ -20,8 +20,8 @@ use Rattle.lane.proofs.Ranks.{swaps-is}
 use Rattle.lane.proofs.Tables.{and-left}
 use Rattle.lane.proofs.Stores.{length-build, getD-build, upd-same, upd-other, after-append}
 use Rattle.runner.specs.Image.{laneIn}
-use Rattle.runner.specs.Rows.{storing, storingIn, row, full, Enabled}
-use Rattle.runner.specs.SwapRows.{key, swapsBy, part, maskRows, marked, Masks, NoIndex, storedUnder, exchanged, masksAt, storedTo, storedBoth}
+use Rattle.runner.specs.PrivateRows.{storing, storingIn, row, full, Enabled}
+use Rattle.runner.specs.PrivateSwap.{key, swapsBy, part, maskRows, marked, Masks, NoIndex, storedUnder, exchanged, masksAt, storedTo, storedBoth}
 use Rattle.runner.proofs.Lanes.{split, same-lanes, own-lanes, storing-same, storing-then, lane-storing, storing-none, in-then}
 use Rattle.runner.proofs.Filled.{Spread, none-below, spread-start, put-holds, operand}
 use Rattle.runner.proofs.Enabled.{quiet-enabled}

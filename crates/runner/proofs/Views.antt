@@ -1,83 +1,89 @@
--- The register view is the part of the image that the register's words are. Assumes nothing.
+-- The register view: where it begins, how many words it has, and that both are within the image. Assumes nothing.
 use mathlib.Core.Path.{_≡_, refl, sym, ap, _∙_}
 use Prim.Native.Nat.{ℕ, _+_, _-_, _*_, _<_, _≤_}
 use native.Mathlib.Omega.{arith}
 use mathlib.Core.Bool.{Bool, true, false, _&&_, _||_}
-use mathlib.Core.List.{List, []}
+use mathlib.Core.List.{List}
 use lib.ListN.{length, take, drop}
 use lib.Dec.{eqb, ltb}
-use borrow.Author.Tests.{eq-eqb, ne-eqb, lt-ltb, le-ltb}
+use borrow.Author.Tests.{lt-ltb, le-ltb, eqb-true, ltb-true}
 use Rattle.lane.specs.Words.{pick, isStored, slotOf}
+use Rattle.lane.proofs.Tables.{and-left, and-right}
 use Rattle.lane.proofs.Cases.{pick-true, pick-false}
-use Rattle.runner.specs.Image.{Starts, view, viewLength, viewStart}
+use Rattle.runner.specs.Image.{wordAt, inView, registerStart, registerCount, view}
 
-pub starts-low : (r : ℕ) → r < 8 → Starts r (32 * r)
+module _ (size r : ℕ) (t : Bool) (e : t ≡ inView size r) where
+  pub some-count : t ≡ true → 32 ≡ registerCount size r
+  unfolding registerCount
+  some-count h = sym (pick-true (inView size r) 32 0 (sym e ∙ h))
+
+  pub no-count : t ≡ false → 0 ≡ registerCount size r
+  unfolding registerCount
+  no-count h = sym (pick-false (inView size r) 32 0 (sym e ∙ h))
+
+  pub no-start : t ≡ false → 0 ≡ registerStart size r
+  unfolding registerStart
+  no-start h = sym (pick-false (inView size r) (wordAt (slotOf r) 0) 0 (sym e ∙ h))
+
+  in-start : t ≡ true → wordAt (slotOf r) 0 ≡ registerStart size r
+  unfolding registerStart
+  in-start h = sym (pick-true (inView size r) (wordAt (slotOf r) 0) 0 (sym e ∙ h))
+
+  pub low-start : t ≡ true → r < 8 → 32 * r ≡ registerStart size r
+  unfolding pick
+  low-start h l = low r l ∙ in-start h
+    where
+      low : (r : ℕ) → r < 8 → 32 * r ≡ wordAt (slotOf r) 0
+      low r h = rw (lt-ltb r 8 h) (omega arith)
+
+  pub high-start : t ≡ true → 8 ≤ r → 32 * (r - 3) ≡ registerStart size r
+  unfolding pick
+  high-start h l = high r l ∙ in-start h
+    where
+      high : (r : ℕ) → 8 ≤ r → 32 * (r - 3) ≡ wordAt (slotOf r) 0
+      high r h = rw (le-ltb r 8 h) (omega arith)
+
+-- the part lies in the image
+below-15 : (r : ℕ) → isStored r ≡ true → r < 15
+below-15 r h = go (ltb r 8) refl h
+  where
+    go : (t : Bool) → ltb r 8 ≡ t → (t || (ltb 10 r && ltb r 15)) ≡ true → r < 15
+    go true e k = omega (arith, ltb-true r 8 e)
+    go false e k = ltb-true r 15 (and-right (ltb 10 r) (ltb r 15) k)
+
+slot-low : (r : ℕ) → r < 15 → slotOf r ≤ 11
 unfolding pick
-starts-low r h =
-    record {
-      whole = omega arith;
-      within = omega arith;
-      stored = λ l. simp (lt-ltb r 8 h);
-      missing = λ l. absurd (no l);
-      place = λ l. simp (lt-ltb r 8 h) (omega arith);
-    }
+slot-low r h = go (ltb r 8) refl
   where
-    no : 768 ≤ 32 * r → ⊥
-    no l = omega arith
+    go : (t : Bool) → ltb r 8 ≡ t → pick t r (r - 3) ≤ 11
+    go true e = omega (arith, ltb-true r 8 e)
+    go false e = omega arith
 
-pub starts-constant : (r : ℕ) → 10 < r → r < 15 → Starts r (32 * (r - 3))
-unfolding pick
-starts-constant r h k =
-    record {
-      whole = omega arith;
-      within = omega arith;
-      stored = λ l. simp (le-ltb r 8 (omega arith), lt-ltb 10 r h, lt-ltb r 15 k);
-      missing = λ l. absurd (no l);
-      place = λ l. simp (le-ltb r 8 (omega arith)) (omega arith);
-    }
+pub part-within : (size r : ℕ) → registerStart size r + registerCount size r ≤ size
+unfolding registerStart registerCount pick
+part-within size r = go (inView size r) refl
   where
-    no : 768 ≤ 32 * (r - 3) → ⊥
-    no l = omega arith
+    go : (t : Bool) → inView size r ≡ t → pick t (wordAt (slotOf r) 0) 0 + pick t 32 0 ≤ size
+    go true e =
+        let w : size ≡ 768 = eqb-true size 768 (and-left (eqb size 768) (isStored r) e) in
+        omega (arith, w, slot-low r (below-15 r (and-right (eqb size 768) (isStored r) e)))
+    go false e = omega arith
 
-absent : (r : ℕ) → isStored r ≡ false → Starts r 768
-absent r e =
-    record {
-      whole = omega arith;
-      within = omega arith;
-      stored = λ l. absurd (no l);
-      missing = λ l. e;
-      place = λ l. absurd (no l);
-    }
+pub part-small : (size r : ℕ) → registerStart size r + registerCount size r ≤ 768
+unfolding registerStart registerCount pick
+part-small size r = go (inView size r) refl
   where
-    no : 768 < 768 → ⊥
-    no l = omega arith
+    go : (t : Bool) → inView size r ≡ t → pick t (wordAt (slotOf r) 0) 0 + pick t 32 0 ≤ 768
+    go true e = omega (arith, slot-low r (below-15 r (and-right (eqb size 768) (isStored r) e)))
+    go false e = omega arith
 
-pub starts-fixed : (r : ℕ) → 8 ≤ r → r ≤ 10 → Starts r 768
-starts-fixed r h k = absent r (simp (le-ltb r 8 h, le-ltb 10 r k))
-
-pub starts-last : (r : ℕ) → 15 ≤ r → Starts r 768
-starts-last r h = absent r (simp (le-ltb r 8 (omega arith), lt-ltb 10 r (omega arith), le-ltb r 15 h))
-
-pub view-part : (image : List ℕ) (r x : ℕ) → length image ≡ 768 → x < 768 → Starts r x → take ((x + 32) - x) (drop x image) ≡ view image r
+-- a part from `at` on, of so many words, is the view
+pub part-view : (image : List ℕ) (r at count : ℕ) → at ≡ registerStart (length image) r → count ≡ registerCount (length image) r
+    → take ((at + count) - at) (drop at image) ≡ view image r
 unfolding view
-view-part image r x e h k =
-    ap (λ (n : ℕ). take n (drop x image)) (size x)
-    ∙ ap (λ (n : ℕ). take 32 (drop n image)) (k .place h)
-    ∙ ap (λ (n : ℕ). take n (drop (viewStart r) image))
-    (sym (pick-true (eqb (length image) 768 && isStored r) 32 0 (ap (λ (b : Bool). b && isStored r) (eq-eqb (length image) 768 e) ∙ k .stored h)))
+part-view image r at count p q =
+    ap (λ (n : ℕ). take n (drop at image)) (size at count) ∙ ap (λ (n : ℕ). take n (drop at image)) q
+    ∙ ap (λ (n : ℕ). take (registerCount (length image) r) (drop n image)) p
   where
-    size : (x : ℕ) → (x + 32) - x ≡ 32
-    size x = omega arith
-
-nothing : (image : List ℕ) (r : ℕ) → (eqb (length image) 768 && isStored r) ≡ false → take 0 image ≡ view image r
-unfolding view
-nothing image r e = none image (drop (viewStart r) image) ∙ ap (λ (n : ℕ). take n (drop (viewStart r) image)) (sym (pick-false (eqb (length image) 768 && isStored r) 32 0 e))
-  where
-    none : (a b : List ℕ) → take 0 a ≡ take 0 b
-    none a b = refl
-
-pub view-none : (image : List ℕ) (r x : ℕ) → length image ≡ 768 → 768 ≤ x → Starts r x → take 0 image ≡ view image r
-view-none image r x e h k = nothing image r (ap (λ (b : Bool). b && isStored r) (eq-eqb (length image) 768 e) ∙ k .missing h)
-
-pub view-other : (image : List ℕ) (r : ℕ) → (length image ≡ 768 → ⊥) → take 0 image ≡ view image r
-view-other image r e = nothing image r (ap (λ (b : Bool). b && isStored r) (ne-eqb (length image) 768 e))
+    size : (a c : ℕ) → (a + c) - a ≡ c
+    size a c = omega arith

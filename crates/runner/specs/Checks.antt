@@ -7,7 +7,7 @@ use lib.Dec.{eqb, leb}
 use Rattle.lane.specs.declared.Settings.{Settings}
 use Rattle.lane.specs.declared.Insn.{Insn}
 use Rattle.lane.specs.Words.{pick}
-use Rattle.lane.specs.Refusals.{settingsGood, instructionAnswer}
+use Rattle.lane.specs.Refusals.{pass, settingsGood, instructionAnswer}
 use Rattle.runner.specs.declared.Found.{Found}
 use Rattle.runner.specs.Image.{imageGood}
 
@@ -41,20 +41,24 @@ scan list k (suc n) =
 abbrev pub scanned : List ℕ → Found
 scanned list = scan list 0 (countOf list)
 
--- 4 and 5, before something further.
-unfoldable pub lengthsFirst : List ℕ → Found → Found
-lengthsFirst list rest = pick (eqb (length list % 6) 0) (pick (leb (countOf list) 1024) rest (found 5 0)) (found 4 0)
+-- "3 a setting outside its range", "4 list length not a multiple of six", "5 more than 1,024 instructions", in that order; 0 where none is given.
+unfoldable pub givenAnswer : Settings → List ℕ → ℕ
+givenAnswer s list = pass (settingsGood s) 3 (pass (eqb (length list % 6) 0) 4 (pass (leb (countOf list) 1024) 5 0))
 
--- The writer's checks: 3, 4, 5, then 7, 8 and 9.
-unfoldable pub listAnswer : Settings → List ℕ → Found
-listAnswer s list = pick (settingsGood s) (lengthsFirst list (scanned list)) (found 3 0)
+-- "1 to 6 are tried in that order": 1 and 2, those, then "6 image not well formed".
+unfoldable pub firstAnswer : Settings → List ℕ → List ℕ → List ℕ → ℕ
+firstAnswer s image dst list =
+    pass (eqb (length image) 768) 1
+    (pass (eqb (length dst) 16384) 2 (pick (eqb (givenAnswer s list) 0) (pass (imageGood image) 6 0) (givenAnswer s list)))
 
--- A run's checks: "1 to 6 are tried in that order, then the instructions in turn". Those that come after 1 and 2,
-unfoldable pub runListAnswer : Settings → List ℕ → List ℕ → Found
-runListAnswer s image list =
-    pick (settingsGood s) (lengthsFirst list (pick (imageGood image) (scanned list) (found 6 0))) (found 3 0)
+-- "then the instructions in turn", where none of those was given.
+unfoldable pub thenScanned : ℕ → List ℕ → Found
+thenScanned n list = pick (eqb n 0) (scanned list) (found n 0)
 
--- and all.
+-- A run's checks: 1 to 6, then 7, 8 and 9.
 unfoldable pub runAnswer : Settings → List ℕ → List ℕ → List ℕ → Found
-runAnswer s image dst list =
-    pick (eqb (length image) 768) (pick (eqb (length dst) 16384) (runListAnswer s image list) (found 2 0)) (found 1 0)
+runAnswer s image dst list = thenScanned (firstAnswer s image dst list) list
+
+-- The checks of a list alone, which are the writer's: 3, 4, 5, then 7, 8 and 9.
+unfoldable pub listAnswer : Settings → List ℕ → Found
+listAnswer s list = thenScanned (givenAnswer s list) list

@@ -1,8 +1,7 @@
 -- Document 01, "The image, 768 words": where a word lies, a lane of an image, and an image of 32 lanes.
-use Prim.Native.Nat.{ℕ, zero, suc, _+_, _*_, _/_, _%_, _<_, _≤_}
-use mathlib.Core.Path.{_≡_}
-use mathlib.Core.Bool.{Bool, true, false, _&&_}
-use mathlib.Core.List.{List, []}
+use Prim.Native.Nat.{ℕ, zero, suc, _+_, _*_, _/_, _%_}
+use mathlib.Core.Bool.{Bool, true, _&&_}
+use mathlib.Core.List.{List}
 use lib.ListN.{getD, length, take, drop}
 use lib.Dec.{eqb}
 use Rattle.lane.specs.Words.{pick, Lane, build, isStored, slotOf}
@@ -34,20 +33,21 @@ abbrev pub imageGood : List ℕ → Bool
 imageGood image = lanesGood image 32
 
 -- "A host may ask for one stored register's lanes and is handed that part of its own image, 32 words; for any other register number, or an
--- image not 768 words long, an empty part."
-abbrev pub viewLength : List ℕ → ℕ → ℕ
-viewLength image r = pick (eqb (length image) 768 && isStored r) 32 0
+-- image not 768 words long, an empty part": there is something to see of register r in an image of so many words.
+abbrev pub inView : ℕ → ℕ → Bool
+inView size r = eqb size 768 && isStored r
 
-abbrev pub viewStart : ℕ → ℕ
-viewStart r = wordAt (slotOf r) 0
+-- The first word of that part, counted from the image's first, and its length. An empty part is at 0.
+unfoldable pub registerStart : ℕ → ℕ → ℕ
+registerStart size r = pick (inView size r) (wordAt (slotOf r) 0) 0
 
+unfoldable pub registerCount : ℕ → ℕ → ℕ
+registerCount size r = pick (inView size r) 32 0
+
+-- The words of that part,
 unfoldable pub view : List ℕ → ℕ → List ℕ
-view image r = take (viewLength image r) (drop (viewStart r) image)
+view image r = take (registerCount (length image) r) (drop (registerStart (length image) r) image)
 
--- Where a register's words start: a stored one's at its slot, any other's at 768. The view's code is handed this.
-pub record Starts (r x : ℕ) : Type 0 where
-  pub whole : x % 32 ≡ 0
-  pub within : x ≤ 768
-  pub stored : x < 768 → isStored r ≡ true
-  pub missing : 768 ≤ x → isStored r ≡ false
-  pub place : x < 768 → x ≡ viewStart r
+-- and where it begins, by the image's own pointer: a word has four bytes.
+unfoldable pub viewPointer : ℕ × ℕ → List ℕ → ℕ → ℕ × ℕ
+viewPointer p image r = (p .0, p .1 + 4 * registerStart (length image) r)

@@ -2,12 +2,12 @@
 pub mod Image
 pub mod Checks
 pub mod Run
--- The vocabulary of the crate's private functions, which no promise rests on.
-pub mod Quick
-pub mod Rows
-pub mod ComputeRows
-pub mod LoadRows
-pub mod SwapRows
-pub mod LutRows
-pub mod ConfigRows
-pub mod StepRows
+-- The vocabulary of private functions, which no promise rests on: pass over it.
+pub mod PrivateQuick
+pub mod PrivateRows
+pub mod PrivateCompute
+pub mod PrivateLoad
+pub mod PrivateSwap
+pub mod PrivateLut
+pub mod PrivateConfig
+pub mod PrivateSteps

@@ -1,15 +1,14 @@
 -- Document 01, "What the replay covers": one instruction over all lanes, the steps through a list, and a run.
 use Prim.Native.Nat.{ℕ, zero, suc, _+_, _*_, _%_}
-use mathlib.Core.Bool.{_&&_}
+use mathlib.Core.Path.{_≡_}
 use mathlib.Core.List.{List}
-use lib.ListN.{getD, length}
+use lib.ListN.{getD}
 use lib.Dec.{eqb}
 use Rattle.lane.specs.declared.Settings.{Settings}
 use Rattle.lane.specs.declared.Insn.{Insn}
 use Rattle.lane.specs.Words.{pick, Lane, after}
 use Rattle.lane.specs.Load.{address, stride, nextCursor, rowOf}
 use Rattle.lane.specs.Rule.{storesOf}
-use Rattle.runner.specs.declared.Found.{Found}
 use Rattle.runner.specs.declared.Outcome.{Outcome}
 use Rattle.runner.specs.Image.{laneIn, ofLanes, headOf}
 use Rattle.runner.specs.Checks.{insnAt, countOf, runAnswer}
@@ -40,11 +39,6 @@ imageAt s i a image dst = ofLanes (laneAfter s i a image dst)
 unfoldable pub imageAfter : Settings → Insn → ℕ → List ℕ → List ℕ → List ℕ
 imageAfter s i cursor image dst = imageAt s i (address (i .imm) (s .offset) cursor) image dst
 
--- The same for an image and a Dst of any length: of another length than theirs, they are left alone.
-unfoldable pub stepImage : Settings → Insn → ℕ → List ℕ → List ℕ → List ℕ
-stepImage s i cursor image dst =
-    pick (eqb (length image) 768 && eqb (length dst) 16384) (imageAfter s i cursor image dst) image
-
 -- The cursor after one instruction.
 abbrev pub cursorAfter : Settings → Insn → ℕ → ℕ
 cursorAfter s i cursor = nextCursor (i .op) cursor (stride s (i .vb))
@@ -74,3 +68,8 @@ outcomeOf s image dst list =
 -- The image afterwards; a refusal leaves it untouched.
 unfoldable pub runImage : Settings → List ℕ → List ℕ → List ℕ → List ℕ
 runImage s image dst list = pick (eqb (runAnswer s image dst list .answer) 0) (finish s image dst list .image) image
+
+-- Demand 2's rules: a run of a list over an image and a Dst has this outcome, and leaves this image.
+pub record Ran (s : Settings) (image dst list : List ℕ) (outcome : Outcome) (after : List ℕ) : Type 0 where
+  pub outcome-is : outcome ≡ outcomeOf s image dst list
+  pub image-is : after ≡ runImage s image dst list

@@ -19,7 +19,7 @@ ghost use lib.ListN.{length};
 ghost use Rattle.lane.specs.Refusals.{instructionAnswer};
 ghost use Rattle.runner.specs.Image as Image;
 ghost use Rattle.runner.specs.Checks as Checks;
-ghost use Rattle.runner.specs.Quick as Quick;
+ghost use Rattle.runner.specs.PrivateQuick as Quick;
 
 // Whether an image of 768 words is well formed: a bit too high in one lane's word is too high in the union of all lanes'.
 fn image_good(image: &[u32]) -> bool
@@ -54,7 +54,7 @@ struct Over {
 fn pair(a: u32, b: u32) -> u64
     ensures { λ r. ⌜ r ≡ Quick.pair a b ⌝ }
 {
-    a as u64 + b as u64 * 0x1_0000_0000
+    a as u64 + b as u64 * 0x100000000
 }
 
 // A row of the table below, from the largest imm, vb, vc and vd.
@@ -75,15 +75,15 @@ fn over_of(op: u32) -> Over
 {
     let k = op % 16;
     match k {
-        1 => over_row(1023, 3, 0, 15, 0xEBE7_EBE7),
+        1 => over_row(1023, 3, 0, 15, 0xEBE7EBE7),
         2 => over_row(65535, 0, 0, 15, 0x0500),
         3 => over_row(0, 0, 0, 15, 0x1111),
         4 => over_row(0, 0, 15, 15, 0xFFFF),
         5 => over_row(65535, 0, 0, 15, 0xFFFF),
         6 => over_row(4095, 0, 15, 15, 0xFFFF),
         7 => over_row(0, 0, 15, 15, 0x0003),
-        8 => over_row(0, 15, 15, 15, 0x2_0003),
-        9 => over_row(0, 15, 15, 15, 0x2_0003),
+        8 => over_row(0, 15, 15, 15, 0x20003),
+        9 => over_row(0, 15, 15, 15, 0x20003),
         10 => over_row(0, 0, 15, 15, 0x0001),
         11 => over_row(0, 0, 15, 15, 0x0001),
         12 => over_row(0, 0, 15, 15, 0x5555),
@@ -148,78 +148,63 @@ fn scanned(list: &[u32]) -> Found
 // The most instructions a list may hold.
 const LIST_LIMIT: usize = 1024;
 
+// 3, 4 or 5, or 0 where none is given.
+fn given_answer(s: Settings, list: &[u32]) -> u32
+    ensures { λ r. ⌜ r ≡ Checks.givenAnswer s (now (list .entry)) ⌝ }
+{
+    if settings_good(s) {
+        if list.len() % 6 != 0 {
+            return 4;
+        }
+        if LIST_LIMIT < list.len() / 6 {
+            return 5;
+        }
+        return 0;
+    }
+    3
+}
+
+// 1 to 6, in that order, or 0 where none is given.
+fn first_answer(s: Settings, image: &[u32], dst: &[u16], list: &[u32]) -> u32
+    ensures { λ r. ⌜ r ≡ Checks.firstAnswer s (now (image .entry)) (now (dst .entry)) (now (list .entry)) ⌝ }
+{
+    if image.len() != 768 {
+        return 1;
+    }
+    if dst.len() != 16384 {
+        return 2;
+    }
+    let given = given_answer(s, list);
+    if given == 0 {
+        if image_good(image) {
+            return 0;
+        }
+        return 6;
+    }
+    given
+}
+
+// The instructions in turn, where no number was given before them.
+fn then_scanned(answer: u32, list: &[u32]) -> Found
+    requires { ⌜ (answer ≡ 0 → length (now list) ≤ 6144) ⌝ }
+    ensures { λ r. ⌜ r ≡ Checks.thenScanned answer (now (list .entry)) ⌝ }
+{
+    if answer == 0 {
+        return scanned(list);
+    }
+    Found { answer, place: 0 }
+}
+
 // The checks of a list alone: 3, 4, 5, then 7, 8 and 9.
 pub fn list_answer(s: Settings, list: &[u32]) -> Found
     ensures { λ r. ⌜ r ≡ Checks.listAnswer s (now (list .entry)) ⌝ }
 {
-    if settings_good(s) {
-        if list.len() % 6 != 0 {
-            return Found {
-                answer: 4,
-                place: 0,
-            };
-        }
-        if LIST_LIMIT < list.len() / 6 {
-            return Found {
-                answer: 5,
-                place: 0,
-            };
-        }
-        return scanned(list);
-    }
-    Found {
-        answer: 3,
-        place: 0,
-    }
+    then_scanned(given_answer(s, list), list)
 }
 
-// The checks of a run: 1 to 6 in that order, then 7, 8 and 9.
-pub fn run_answer(s: Settings, image: &[u32], dst: &[u16], list: &[u32]) -> Found
+// The checks of a run: 1 to 6, then 7, 8 and 9.
+pub(crate) fn run_answer(s: Settings, image: &[u32], dst: &[u16], list: &[u32]) -> Found
     ensures { λ r. ⌜ r ≡ Checks.runAnswer s (now (image .entry)) (now (dst .entry)) (now (list .entry)) ⌝ }
 {
-    if image.len() != 768 {
-        return Found {
-            answer: 1,
-            place: 0,
-        };
-    }
-    if dst.len() != 16384 {
-        return Found {
-            answer: 2,
-            place: 0,
-        };
-    }
-    run_list_answer(s, image, list)
-}
-
-// The checks of a run whose image and Dst have their lengths.
-fn run_list_answer(s: Settings, image: &[u32], list: &[u32]) -> Found
-    requires { ⌜ length (now image) ≡ 768 ⌝ }
-    ensures { λ r. ⌜ r ≡ Checks.runListAnswer s (now (image .entry)) (now (list .entry)) ⌝ }
-{
-    if settings_good(s) {
-        if list.len() % 6 != 0 {
-            return Found {
-                answer: 4,
-                place: 0,
-            };
-        }
-        if LIST_LIMIT < list.len() / 6 {
-            return Found {
-                answer: 5,
-                place: 0,
-            };
-        }
-        if image_good(image) {
-            return scanned(list);
-        }
-        return Found {
-            answer: 6,
-            place: 0,
-        };
-    }
-    Found {
-        answer: 3,
-        place: 0,
-    }
+    then_scanned(first_answer(s, image, dst, list), list)
 }

@@ -22,14 +22,14 @@ ghost use lib.Dec.{eqb};
 ghost use Rattle.lane.specs.Words.{has, enabled};
 ghost use Rattle.lane.specs.Compute as Rules;
 ghost use Rattle.runner.specs.Image.{laneIn};
-ghost use Rattle.runner.specs.Rows as Rows;
-ghost use Rattle.runner.specs.ComputeRows as Compute;
+ghost use Rattle.runner.specs.PrivateRows as Rows;
+ghost use Rattle.runner.specs.PrivateCompute as Compute;
 
 // What vc is cut by before LZ counts: mod's 4 clears the top bit.
 fn lz_limit(m: u32) -> u32
     ensures { λ r. ⌜ r ≡ Compute.lzLimit m ⌝ }
 {
-    0xFFFF_FFFF - m / 4 % 2 * 0x8000_0000
+    0xFFFFFFFF - m / 4 % 2 * 0x80000000
 }
 
 // The zeros that LZ counts, the lowest digit taken as set, so that the word 0 has 31: of a word that is not zero a processor counts them in one
@@ -87,7 +87,7 @@ fn truth_of(op: u32, word: u32) -> bool
     if op == 12 {
         word < 32
     } else {
-        0x8000_0000 <= word
+        0x80000000 <= word
     }
 }
 

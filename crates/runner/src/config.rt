@@ -11,6 +11,8 @@ use lane::config::value_of;
 use lane::words::LANE_CONFIG;
 use lane::words::LANE_FLAG;
 use lane::words::MISC;
+use lane::words::SEQUENCE;
+use lane::words::TEMPLATE;
 use lane::words::USE_FLAG;
 ghost use mathlib.Core.Path.{_≡_};
 ghost use mathlib.Core.List.{[], _∷_};
@@ -19,18 +21,18 @@ ghost use lib.ListN.{length, getD};
 ghost use Rattle.lane.specs.Words.{pick};
 ghost use Rattle.lane.specs.Config as Rules;
 ghost use Rattle.runner.specs.Image.{laneIn};
-ghost use Rattle.runner.specs.Rows as Rows;
-ghost use Rattle.runner.specs.ConfigRows as ConfigRows;
+ghost use Rattle.runner.specs.PrivateRows as Rows;
+ghost use Rattle.runner.specs.PrivateConfig as ConfigRows;
 
 // The slot that CONFIG stores to, for any vd but 9 and 10.
 fn config_slot(vd: u32) -> usize
     ensures { λ r. ⌜ (r ≡ ConfigRows.configSlot vd) × (r < 24) ⌝ }
 {
     if vd < 4 {
-        return 15 + vd as usize;
+        return TEMPLATE + vd as usize;
     }
     if vd < 8 {
-        return 19 + (vd as usize - 4);
+        return SEQUENCE + (vd as usize - 4);
     }
     if vd == 8 {
         return MISC;

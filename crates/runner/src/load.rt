@@ -18,8 +18,8 @@ ghost use Rattle.lane.specs.Words.{bit, build};
 ghost use Rattle.lane.specs.Load as Rules;
 ghost use Rattle.runner.specs.Image.{laneIn};
 ghost use Rattle.runner.specs.Run.{evenCell, oddCell};
-ghost use Rattle.runner.specs.Rows as Rows;
-ghost use Rattle.runner.specs.LoadRows as LoadRows;
+ghost use Rattle.runner.specs.PrivateRows as Rows;
+ghost use Rattle.runner.specs.PrivateLoad as LoadRows;
 
 // The masks of the lanes whose cell is the odd one of its pair. The four lanes of a column go by the first one's LaneConfig.
 fn odd_row(image: &[u32], a: u16) -> [u32; 32]

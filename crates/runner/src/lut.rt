@@ -8,9 +8,9 @@ use lane::Insn;
 use lane::LutAnswer;
 use lane::lut::float_of;
 use lane::lut::input_bits;
-use lane::lut::line_of;
 use lane::lut::lut_answer;
 use lane::lut::lut_word;
+use lane::lut::piece_of;
 use lane::lut::serving;
 use lane::lut::sum_of;
 use lane::words::LANE_CONFIG;
@@ -24,8 +24,8 @@ ghost use Rattle.lane.specs.Words.{has};
 ghost use Rattle.lane.specs.Swap as Swap;
 ghost use Rattle.lane.specs.Lut as Rules;
 ghost use Rattle.runner.specs.Image.{laneIn};
-ghost use Rattle.runner.specs.Rows as Rows;
-ghost use Rattle.runner.specs.LutRows as LutRows;
+ghost use Rattle.runner.specs.PrivateRows as Rows;
+ghost use Rattle.runner.specs.PrivateLut as LutRows;
 
 // The inputs.
 fn inputs(image: &[u32]) -> [f32; 32]
@@ -62,12 +62,12 @@ fn served(image: &[u32], b: &[f32; 32]) -> [u32; 32]
 
 // The sums.
 fn sums(b: &[f32; 32], k: &[u32; 32]) -> [f32; 32]
-    ensures { λ x. ⌜ LutRows.Numbers (λ L. Rules.sumOf (Rules.lineOf (getD (now (k .entry)) L 0)) (getD (now (b .entry)) L nan)) x ⌝ }
+    ensures { λ x. ⌜ LutRows.Numbers (λ L. Rules.sumOf (Rules.pieceOf (getD (now (k .entry)) L 0)) (getD (now (b .entry)) L nan)) x ⌝ }
 {
     let mut x = [0.0f32; 32];
     let mut n: usize = 0;
     while n < 32 {
-        x[n] = sum_of(line_of(k[n]), b[n]);
+        x[n] = sum_of(piece_of(k[n]), b[n]);
         n += 1;
     }
     x
@@ -120,7 +120,7 @@ fn answer_rows(
     while n < 32 {
         let answer = lut_answer(act[n] != 0, vd, x[n]);
         let word = answer_word(m, r3[n], answer, old[n]);
-        put(image, vd as usize, n, 0xFFFF_FFFF, word);
+        put(image, vd as usize, n, 0xFFFFFFFF, word);
         n += 1;
     }
 }
@@ -159,7 +159,7 @@ fn scatter(image: &mut [u32], words: &[u32; 64])
     let mut n: usize = 0;
     while n < 32 {
         let slot = words[32 + n] as usize;
-        put(image, slot, n, 0xFFFF_FFFF, words[n]);
+        put(image, slot, n, 0xFFFFFFFF, words[n]);
         n += 1;
     }
 }

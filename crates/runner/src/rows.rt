@@ -12,13 +12,13 @@ ghost use Prim.Native.Nat.{ℕ, _+_, _*_, _<_, _≤_};
 ghost use lib.ListN.{length, getD};
 ghost use Rattle.lane.specs.Words.{pick, reg, isStored, slotOf};
 ghost use Rattle.runner.specs.Image as Image;
-ghost use Rattle.runner.specs.Rows as Rows;
+ghost use Rattle.runner.specs.PrivateRows as Rows;
 
 // A test as a mask.
 pub(crate) fn full(test: bool) -> u32
     ensures { λ r. ⌜ r ≡ Rows.full test ⌝ }
 {
-    if test { 0xFFFF_FFFF } else { 0 }
+    if test { 0xFFFFFFFF } else { 0 }
 }
 
 // One word or the other, by a mask.
@@ -31,7 +31,7 @@ pub(crate) fn masked(mask: u32, new: u32, old: u32) -> u32
 // Where the word of a slot in lane `n` lies.
 fn place(slot: usize, n: usize) -> usize
     requires { ⌜ (slot < 24) × (n < 32) ⌝ }
-    ensures { λ r. ⌜ r ≡ 32 * slot + n ⌝ }
+    ensures { λ r. ⌜ r ≡ Image.wordAt slot n ⌝ }
 {
     32 * slot + n
 }

@@ -22,8 +22,8 @@ ghost use mathlib.Core.Path.{_≡_};
 ghost use Prim.Native.Nat.{_≤_};
 ghost use lib.ListN.{length};
 ghost use Rattle.runner.specs.Run as Run;
-ghost use Rattle.runner.specs.Rows as Rows;
-ghost use Rattle.runner.specs.StepRows as Steps;
+ghost use Rattle.runner.specs.PrivateRows as Rows;
+ghost use Rattle.runner.specs.PrivateSteps as Steps;
 
 // Any instruction but LOAD, in every lane. `go` are the run's rows of masks, `fixed` the rows of the registers never stored. The op is a constant
 // where one function serves several.
@@ -90,22 +90,9 @@ fn step_all(s: Settings, cursor: u32, image: &mut [u32], dst: &[u16], list: &[u3
     at
 }
 
-// One instruction: the image after it, in place, and the cursor after it. An image or a Dst of another length is left alone. It is a list of one, so
-// that the steps through a list are compiled once.
-pub fn step(s: Settings, i: Insn, cursor: u32, image: &mut [u32], dst: &[u16]) -> u32
-    ensures { λ r. ⌜ (r ≡ Run.cursorAfter s i cursor) × (now (image .exit) ≡ Run.stepImage s i cursor (now (image .entry)) (now (dst .entry))) ⌝ }
-{
-    let sized = (image.len() == 768) & (dst.len() == 16384);
-    if sized {
-        let list = [i.op, i.imm, i.vb, i.vc, i.vd, i.md];
-        return step_all(s, cursor, image, dst, &list);
-    }
-    next_cursor(i.op, cursor, stride(s, i.vb))
-}
-
 // A run of a list over an image and a Dst: a refusal leaves the image untouched.
 pub fn run(s: Settings, image: &mut [u32], dst: &[u16], list: &[u32]) -> Outcome
-    ensures { λ r. ⌜ (r ≡ Run.outcomeOf s (now (image .entry)) (now (dst .entry)) (now (list .entry))) × (now (image .exit) ≡ Run.runImage s (now (image .entry)) (now (dst .entry)) (now (list .entry))) ⌝ }
+    ensures { λ r. ⌜ Run.Ran s (now (image .entry)) (now (dst .entry)) (now (list .entry)) r (now (image .exit)) ⌝ }
 {
     let found = run_answer(s, image, dst, list);
     let answer = found.answer;

@@ -17,15 +17,15 @@ ghost use lib.Dec.{eqb, ltb};
 ghost use Rattle.lane.specs.Words.{bit, enabled, reg};
 ghost use Rattle.lane.specs.Swap as Rules;
 ghost use Rattle.runner.specs.Image.{laneIn};
-ghost use Rattle.runner.specs.Rows as Rows;
-ghost use Rattle.runner.specs.SwapRows as Swaps;
+ghost use Rattle.runner.specs.PrivateRows as Rows;
+ghost use Rattle.runner.specs.PrivateSwap as Swaps;
 
 // A word's place in the order of ranks, so that one comparison of numbers decides it. The last exclusive or is that of a signed comparison's turn, so
 // that a processor that compares signed words alone has none to add.
 fn key(x: u32) -> u32
     ensures { λ r. ⌜ r ≡ Swaps.key x ⌝ }
 {
-    (x ^ (full(0x8000_0000 <= x) & 0x7FFF_FFFF)) ^ 0x8000_0000
+    (x ^ (full(0x80000000 <= x) & 0x7FFFFFFF)) ^ 0x80000000
 }
 
 // The mask of whether a lane swaps, from its mask of being enabled: `always` under mod 0, `free` of bit 4 for vd below 12.
@@ -100,8 +100,8 @@ fn exchange(image: &mut [u32], p: usize, q: usize, t: &[u32; 128], a: usize, b: 
     while n < 32 {
         let x = word_at(image, p, n);
         let y = word_at(image, q, n);
-        put(image, p, n, 0xFFFF_FFFF, masked(t[a + n], y, x));
-        put(image, q, n, 0xFFFF_FFFF, masked(t[b + n], x, y));
+        put(image, p, n, 0xFFFFFFFF, masked(t[a + n], y, x));
+        put(image, q, n, 0xFFFFFFFF, masked(t[b + n], x, y));
         n += 1;
     }
 }

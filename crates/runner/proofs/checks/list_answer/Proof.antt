@@ -1,26 +1,17 @@
-use Rattle.lane.proofs.Cases.{if-true, if-false, if-le, if-gt, if-eq, if-ne}
+use Rattle.runner.proofs.Accepted.{given, given-short}
 use Rattle.runner.proofs.checks.list_answer.Statement.{statement}
-use Rattle.runner.specs.Checks.{lengthsFirst, listAnswer}
+use Rattle.runner.specs.Checks.{listAnswer}
 use borrow.Author.Needs.{needs}
-use mathlib.Core.Path.{refl}
+use mathlib.Core.Path.{sym, _∙_}
 use Rattle.runner.proofs.checks.list_answer.Tie as tie
 
+then-scanned-requires : tie.Need-then-scanned-requires
+then-scanned-requires c κs = λ z. given-short _ _ (given _ _ (sym (c .given-answer .ensures) ∙ z))
+
 returns : tie.Need-returns
-unfolding listAnswer lengthsFirst
-returns c = if-true _ _ _ _ (rw (c .before .before .settings-good .ensures) at (c .before .if1 .taken)) (if-ne _ _ _ _ _ (c .if2 .taken) refl)
-
-returns-2 : tie.Need-returns-2
-unfolding listAnswer lengthsFirst
-returns-2 c = if-true _ _ _ _ (rw (c .before .before .before .settings-good .ensures) at (c .before .before .if1 .taken)) (if-eq _ _ _ _ _ (c .before .if2 .left) (if-gt _ _ _ _ _ (c .if3 .taken) refl))
-
-returns-3 : tie.Need-returns-3
-unfolding listAnswer lengthsFirst
-returns-3 c = if-true _ _ _ _ (rw (c .before .before .before .before .settings-good .ensures) at (c .before .before .before .if1 .taken)) (if-eq _ _ _ _ _ (c .before .before .if2 .left) (if-le _ _ _ _ _ (c .before .if3 .left) (c .scanned .ensures)))
-
-returns-4 : tie.Need-returns-4
-unfolding listAnswer lengthsFirst
-returns-4 c = if-false _ _ _ _ (rw (c .before .settings-good .ensures) at (c .if1 .left)) refl
+unfolding listAnswer
+returns c = rw (← (c .before .given-answer .ensures)) (c .then-scanned .ensures)
 
 pub list-answer-spec : {M : Type 1} → statement M
 list-answer-spec =
-    tie.close (tie.spec (λ c κs. search needs) returns returns-2 (λ c κs. search needs) returns-3 returns-4)
+    tie.close (tie.spec (λ c κs. search needs) then-scanned-requires returns)

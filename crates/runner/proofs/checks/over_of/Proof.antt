@@ -1,7 +1,7 @@
 use Prim.Native.Nat.{_%_}
 use Rattle.lane.proofs.Fields.{less, least}
 use Rattle.runner.proofs.checks.over_of.Statement.{statement}
-use Rattle.runner.specs.Quick.{overOf}
+use Rattle.runner.specs.PrivateQuick.{overOf}
 use borrow.Author.Needs.{needs}
 use mathlib.Core.Path.{_≡_}
 use native.Mathlib.Omega.{arith}

@@ -1,5 +1,5 @@
 use Rattle.runner.proofs.checks.over_row.Statement.{statement}
-use Rattle.runner.specs.Quick.{over}
+use Rattle.runner.specs.PrivateQuick.{over}
 use borrow.Author.Needs.{needs}
 use Rattle.runner.proofs.checks.over_row.Tie as tie
 

@@ -1,5 +1,5 @@
 use Rattle.runner.proofs.checks.plain.Statement.{statement}
-use Rattle.runner.specs.Quick.{noneOver}
+use Rattle.runner.specs.PrivateQuick.{noneOver}
 use borrow.Author.Needs.{needs}
 use Rattle.runner.proofs.checks.plain.Tie as tie
 

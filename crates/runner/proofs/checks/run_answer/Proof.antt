@@ -1,22 +1,17 @@
-use Rattle.lane.proofs.Cases.{if-eq, if-ne}
+use Rattle.runner.proofs.Accepted.{first, given-short}
 use Rattle.runner.proofs.checks.run_answer.Statement.{statement}
 use Rattle.runner.specs.Checks.{runAnswer}
 use borrow.Author.Needs.{needs}
-use mathlib.Core.Path.{refl}
+use mathlib.Core.Path.{sym, _∙_}
 use Rattle.runner.proofs.checks.run_answer.Tie as tie
+
+then-scanned-requires : tie.Need-then-scanned-requires
+then-scanned-requires c κs = λ z. given-short _ _ (first _ _ _ _ (sym (c .first-answer .ensures) ∙ z) .list-given)
 
 returns : tie.Need-returns
 unfolding runAnswer
-returns c = if-ne _ _ _ _ _ (c .if1 .taken) refl
-
-returns-2 : tie.Need-returns-2
-unfolding runAnswer
-returns-2 c = if-eq _ _ _ _ _ (c .before .if1 .left) (if-ne _ _ _ _ _ (c .if2 .taken) refl)
-
-returns-3 : tie.Need-returns-3
-unfolding runAnswer
-returns-3 c = if-eq _ _ _ _ _ (c .before .before .if1 .left) (if-eq _ _ _ _ _ (c .before .if2 .left) (c .run-list-answer .ensures))
+returns c = rw (← (c .before .first-answer .ensures)) (c .then-scanned .ensures)
 
 pub run-answer-spec : {M : Type 1} → statement M
 run-answer-spec =
-    tie.close (tie.spec returns returns-2 (λ c κs. search needs) returns-3)
+    tie.close (tie.spec (λ c κs. search needs) then-scanned-requires returns)

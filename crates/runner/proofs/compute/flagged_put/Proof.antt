@@ -1,6 +1,6 @@
 use Rattle.runner.proofs.Made.{word-and-flag-in}
 use Rattle.runner.proofs.compute.flagged_put.Statement.{statement}
-use Rattle.runner.specs.ComputeRows.{flaggedWith}
+use Rattle.runner.specs.PrivateCompute.{flaggedWith}
 use borrow.Author.Needs.{needs}
 use mathlib.Core.Path.{refl}
 use Rattle.runner.proofs.compute.flagged_put.Tie as tie

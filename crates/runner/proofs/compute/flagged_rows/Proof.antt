@@ -3,8 +3,8 @@ use Rattle.lane.specs.Words.{Lane}
 use Rattle.runner.proofs.Enabled.{enabled-more}
 use Rattle.runner.proofs.Lanes.{Turned, turn-start, turned-length, turn-more, turn-end}
 use Rattle.runner.proofs.compute.flagged_rows.Statement.{statement}
-use Rattle.runner.specs.ComputeRows.{flaggedWith}
-use Rattle.runner.specs.Rows.{Enabled}
+use Rattle.runner.specs.PrivateCompute.{flaggedWith}
+use Rattle.runner.specs.PrivateRows.{Enabled}
 use borrow.Author.Needs.{needs}
 use lib.ListN.{getD}
 use mathlib.Core.Path.{sym, _∙_}

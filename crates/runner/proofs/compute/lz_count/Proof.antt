@@ -1,7 +1,7 @@
 use Prim.Native.Nat.{ℕ}
 use Rattle.runner.proofs.ComputeRows.{limit-is}
 use Rattle.runner.proofs.compute.lz_count.Statement.{statement}
-use Rattle.runner.specs.ComputeRows.{lzCount}
+use Rattle.runner.specs.PrivateCompute.{lzCount}
 use lib.Bits.{bitAnd, bitOr}
 use lib.Count.{leadingZeros}
 use mathlib.Core.Path.{ap, _∙_}

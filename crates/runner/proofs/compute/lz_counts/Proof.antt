@@ -1,7 +1,7 @@
 use Prim.Native.Nat.{ℕ, _-_}
 use Rattle.runner.proofs.Filled.{Filled, fill-start, fill-more, fill-end}
 use Rattle.runner.proofs.compute.lz_counts.Statement.{statement}
-use Rattle.runner.specs.ComputeRows.{lzCount}
+use Rattle.runner.specs.PrivateCompute.{lzCount}
 use borrow.Author.Needs.{needs}
 use lib.ListN.{getD}
 use native.Mathlib.Omega.{arith}

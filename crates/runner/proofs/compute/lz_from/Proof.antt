@@ -2,7 +2,7 @@ use Prim.Native.Nat.{ℕ, _+_, _%_, _^_}
 use Rattle.lane.specs.Words.{pick}
 use Rattle.runner.proofs.ComputeRows.{limit-is}
 use Rattle.runner.proofs.compute.lz_from.Statement.{statement}
-use Rattle.runner.specs.ComputeRows.{lzFrom}
+use Rattle.runner.specs.PrivateCompute.{lzFrom}
 use borrow.Author.Needs.{needs}
 use lib.Bits.{bitAnd}
 use lib.Dec.{eqb}

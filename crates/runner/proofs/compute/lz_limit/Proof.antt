@@ -1,5 +1,5 @@
 use Rattle.runner.proofs.compute.lz_limit.Statement.{statement}
-use Rattle.runner.specs.ComputeRows.{lzLimit}
+use Rattle.runner.specs.PrivateCompute.{lzLimit}
 use borrow.Author.Needs.{needs}
 use mathlib.Core.Path.{refl}
 use Rattle.runner.proofs.compute.lz_limit.Tie as tie

@@ -1,6 +1,6 @@
 use Rattle.lane.specs.Words.{pick}
 use Rattle.runner.proofs.compute.truth_of.Statement.{statement}
-use Rattle.runner.specs.ComputeRows.{truthOf}
+use Rattle.runner.specs.PrivateCompute.{truthOf}
 use borrow.Author.Tests.{eq-eqb, ne-eqb}
 use Rattle.runner.proofs.compute.truth_of.Tie as tie
 

@@ -1,6 +1,6 @@
 use Rattle.lane.specs.Words.{pick}
 use Rattle.runner.proofs.compute.word_of.Statement.{statement}
-use Rattle.runner.specs.ComputeRows.{wordOf}
+use Rattle.runner.specs.PrivateCompute.{wordOf}
 use borrow.Author.Needs.{needs}
 use borrow.Author.Tests.{ne-eqb}
 use Rattle.runner.proofs.compute.word_of.Tie as tie

@@ -1,6 +1,6 @@
 use Rattle.runner.proofs.Made.{word-in}
 use Rattle.runner.proofs.compute.word_put.Statement.{statement}
-use Rattle.runner.specs.ComputeRows.{wordWith}
+use Rattle.runner.specs.PrivateCompute.{wordWith}
 use borrow.Author.Needs.{needs}
 use mathlib.Core.Path.{refl}
 use Rattle.runner.proofs.compute.word_put.Tie as tie

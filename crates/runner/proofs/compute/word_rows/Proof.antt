@@ -3,7 +3,7 @@ use Rattle.lane.specs.Words.{Lane}
 use Rattle.runner.proofs.Enabled.{enabled-turn}
 use Rattle.runner.proofs.Lanes.{Turned, turn-start, turned-length, turn-more, turn-end}
 use Rattle.runner.proofs.compute.word_rows.Statement.{statement}
-use Rattle.runner.specs.ComputeRows.{wordWith}
+use Rattle.runner.specs.PrivateCompute.{wordWith}
 use borrow.Author.Needs.{needs}
 use lib.ListN.{getD}
 use mathlib.Core.Path.{sym, _∙_}

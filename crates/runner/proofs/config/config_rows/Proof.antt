@@ -3,7 +3,7 @@ use Rattle.lane.specs.Words.{pick, Lane}
 use Rattle.runner.proofs.ConfigRows.{reached-at}
 use Rattle.runner.proofs.Lanes.{Turned, turn-start, turned-length, turn-more, turn-end}
 use Rattle.runner.proofs.config.config_rows.Statement.{statement}
-use Rattle.runner.specs.ConfigRows.{reached, written}
+use Rattle.runner.specs.PrivateConfig.{reached, written}
 use Rattle.runner.specs.Image.{laneIn}
 use borrow.Author.Needs.{needs}
 use lib.ListN.{getD}

@@ -1,6 +1,6 @@
 use Rattle.lane.proofs.Cases.{if-lt, if-ge, if-eq, if-ne}
 use Rattle.runner.proofs.config.config_slot.Statement.{statement}
-use Rattle.runner.specs.ConfigRows.{configSlot}
+use Rattle.runner.specs.PrivateConfig.{configSlot}
 use borrow.Author.Needs.{needs}
 use mathlib.Core.Path.{refl}
 use native.Mathlib.Omega.{arith}

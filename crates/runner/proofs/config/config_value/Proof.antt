@@ -1,6 +1,6 @@
 use Rattle.lane.proofs.Cases.{if-lt, if-ge, if-true, if-false}
 use Rattle.runner.proofs.config.config_value.Statement.{statement}
-use Rattle.runner.specs.ConfigRows.{configValue}
+use Rattle.runner.specs.PrivateConfig.{configValue}
 use borrow.Author.Needs.{needs}
 use mathlib.Core.Path.{refl}
 use Rattle.runner.proofs.config.config_value.Tie as tie

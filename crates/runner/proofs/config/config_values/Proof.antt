@@ -2,7 +2,7 @@ use Prim.Native.Nat.{ℕ, _-_, _%_}
 use Rattle.runner.proofs.ConfigRows.{column-more, column-end}
 use Rattle.runner.proofs.Filled.{Spread, spread-start}
 use Rattle.runner.proofs.config.config_values.Statement.{statement}
-use Rattle.runner.specs.ConfigRows.{configValue}
+use Rattle.runner.specs.PrivateConfig.{configValue}
 use Rattle.runner.specs.Image.{laneIn}
 use borrow.Author.Needs.{needs}
 use native.Mathlib.Omega.{arith}

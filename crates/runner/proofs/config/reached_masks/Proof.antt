@@ -2,9 +2,9 @@ use Prim.Native.Nat.{ℕ, _-_, _%_}
 use Rattle.runner.proofs.ConfigRows.{column-more, column-end}
 use Rattle.runner.proofs.Filled.{Spread, spread-start}
 use Rattle.runner.proofs.config.reached_masks.Statement.{statement}
-use Rattle.runner.specs.ConfigRows.{reached, reachedIn}
+use Rattle.runner.specs.PrivateConfig.{reached, reachedIn}
 use Rattle.runner.specs.Image.{laneIn}
-use Rattle.runner.specs.Rows.{full}
+use Rattle.runner.specs.PrivateRows.{full}
 use borrow.Author.Needs.{needs}
 use native.Mathlib.Omega.{arith}
 use Rattle.runner.proofs.config.reached_masks.Tie as tie

@@ -1,6 +1,6 @@
 use Rattle.lane.proofs.Cases.{if-lt, if-ge, if-eq, if-ne}
 use Rattle.runner.proofs.config.written.Statement.{statement}
-use Rattle.runner.specs.ConfigRows.{written}
+use Rattle.runner.specs.PrivateConfig.{written}
 use borrow.Author.Needs.{needs}
 use mathlib.Core.Path.{refl}
 use Rattle.runner.proofs.config.written.Tie as tie

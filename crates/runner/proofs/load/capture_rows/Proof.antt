@@ -4,7 +4,7 @@ use Rattle.lane.specs.Words.{Lane, laneConfig}
 use Rattle.runner.proofs.Lanes.{turn-start, turned-length, turn-lane, turn-end, Turned}
 use Rattle.runner.proofs.LoadRows.{masked-turn, capture-mask, capture-made}
 use Rattle.runner.proofs.load.capture_rows.Statement.{statement}
-use Rattle.runner.specs.LoadRows.{isOpen, capturedOnly}
+use Rattle.runner.specs.PrivateLoad.{isOpen, capturedOnly}
 use borrow.Author.Needs.{needs}
 use lib.ListN.{getD}
 use mathlib.Core.Bool.{_&&_}

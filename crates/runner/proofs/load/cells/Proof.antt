@@ -2,8 +2,8 @@ use Prim.Native.Nat.{ℕ, _-_, _≤_}
 use Rattle.runner.proofs.Filled.{Filled, fill-start, fill-more, fill-end}
 use Rattle.runner.proofs.LoadRows.{cell-made}
 use Rattle.runner.proofs.load.cells.Statement.{statement}
-use Rattle.runner.specs.LoadRows.{cellOf}
-use Rattle.runner.specs.Rows.{row, full}
+use Rattle.runner.specs.PrivateLoad.{cellOf}
+use Rattle.runner.specs.PrivateRows.{row, full}
 use borrow.Author.Needs.{needs}
 use mathlib.Core.Bool.{Bool}
 use mathlib.Core.Path.{_≡_}

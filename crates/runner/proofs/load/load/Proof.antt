@@ -2,7 +2,7 @@ use Rattle.runner.proofs.Lanes.{storing-none}
 use Rattle.runner.proofs.LoadRows.{no-load}
 use Rattle.runner.proofs.load.load.Statement.{statement}
 use Rattle.runner.specs.Image.{laneIn}
-use Rattle.runner.specs.LoadRows.{loadedAt}
+use Rattle.runner.specs.PrivateLoad.{loadedAt}
 use borrow.Author.Needs.{needs}
 use mathlib.Core.Path.{sym}
 use Rattle.lane.specs.Load as Rules

@@ -4,7 +4,7 @@ use Rattle.runner.proofs.Filled.{operand}
 use Rattle.runner.proofs.Lanes.{turn-start, turned-length, turn-end, Turned}
 use Rattle.runner.proofs.LoadRows.{masked-turn, load-made}
 use Rattle.runner.proofs.load.load_rows.Statement.{statement}
-use Rattle.runner.specs.LoadRows.{isOpen, openIn, loadedOnly}
+use Rattle.runner.specs.PrivateLoad.{isOpen, openIn, loadedOnly}
 use borrow.Author.Needs.{needs}
 use lib.ListN.{getD}
 use mathlib.Core.Path.{sym, _∙_}

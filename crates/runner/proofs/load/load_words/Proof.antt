@@ -1,7 +1,7 @@
 use Prim.Native.Nat.{ℕ, _%_}
 use Rattle.runner.proofs.LoadRows.{open-kept, captured, uncaptured}
 use Rattle.runner.proofs.load.load_words.Statement.{statement}
-use Rattle.runner.specs.LoadRows.{oddAt, oddIn}
+use Rattle.runner.specs.PrivateLoad.{oddAt, oddIn}
 use borrow.Author.Needs.{needs}
 use lib.ListN.{getD}
 use mathlib.Core.Path.{_∙_}

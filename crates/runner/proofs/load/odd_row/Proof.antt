@@ -2,8 +2,8 @@ use Prim.Native.Nat.{ℕ, _-_}
 use Rattle.runner.proofs.Filled.{Spread, spread-start, spread-end}
 use Rattle.runner.proofs.LoadRows.{odd-column}
 use Rattle.runner.proofs.load.odd_row.Statement.{statement}
-use Rattle.runner.specs.LoadRows.{oddAt, oddIn}
-use Rattle.runner.specs.Rows.{full, row}
+use Rattle.runner.specs.PrivateLoad.{oddAt, oddIn}
+use Rattle.runner.specs.PrivateRows.{full, row}
 use borrow.Author.Needs.{needs}
 use native.Mathlib.Omega.{arith}
 use Rattle.runner.proofs.load.odd_row.Tie as tie

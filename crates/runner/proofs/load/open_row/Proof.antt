@@ -3,8 +3,8 @@ use Rattle.runner.proofs.Filled.{Filled, fill-start, fill-more, fill-en
 use Rattle.runner.proofs.LoadRows.{open-mask}
 use Rattle.runner.proofs.load.open_row.Statement.{statement}
 use Rattle.runner.specs.Image.{laneIn}
-use Rattle.runner.specs.LoadRows.{isOpen, openIn}
-use Rattle.runner.specs.Rows.{full}
+use Rattle.runner.specs.PrivateLoad.{isOpen, openIn}
+use Rattle.runner.specs.PrivateRows.{full}
 use borrow.Author.Needs.{needs}
 use native.Mathlib.Omega.{arith}
 use Rattle.runner.proofs.load.open_row.Tie as tie

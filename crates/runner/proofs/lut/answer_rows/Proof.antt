@@ -3,7 +3,7 @@ use Rattle.lane.specs.Words.{Lane}
 use Rattle.runner.proofs.Lanes.{Turned, turn-start, turned-length, turn-more, turn-end}
 use Rattle.runner.proofs.LutRows.{all-ones, put-all}
 use Rattle.runner.proofs.lut.answer_rows.Statement.{statement}
-use Rattle.runner.specs.LutRows.{isSet, answered, storedWord}
+use Rattle.runner.specs.PrivateLut.{isSet, answered, storedWord}
 use borrow.Author.Needs.{needs}
 use lib.Ieee.{nan}
 use lib.ListN.{getD}

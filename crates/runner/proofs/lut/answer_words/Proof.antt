@@ -3,7 +3,7 @@ use Rattle.lane.specs.Swap.{acts}
 use Rattle.runner.proofs.LutRows.{answer-by, Laid, laid-start, laid-more}
 use Rattle.runner.proofs.lut.answer_words.Statement.{statement}
 use Rattle.runner.specs.Image.{laneIn}
-use Rattle.runner.specs.LutRows.{answered}
+use Rattle.runner.specs.PrivateLut.{answered}
 use borrow.Author.Needs.{needs}
 use lib.Ieee.{nan}
 use lib.ListN.{getD}

@@ -4,7 +4,7 @@ use Rattle.runner.proofs.Enabled.{enabled-end}
 use Rattle.runner.proofs.Filled.{Spread, spread-start, one-more}
 use Rattle.runner.proofs.rows.enabled_row.Statement.{statement}
 use Rattle.runner.specs.Image.{laneIn}
-use Rattle.runner.specs.Rows.{full}
+use Rattle.runner.specs.PrivateRows.{full}
 use borrow.Author.Needs.{needs}
 use native.Mathlib.Omega.{arith}
 use Rattle.runner.proofs.rows.enabled_row.Tie as tie

@@ -3,7 +3,7 @@ use Rattle.lane.specs.Words.{pick, fixedWord}
 use Rattle.runner.proofs.Filled.{Spread, spread-start, rows-more, spread-end}
 use Rattle.runner.proofs.Operands.{fixed-place}
 use Rattle.runner.proofs.rows.fixed_rows.Statement.{statement}
-use Rattle.runner.specs.Rows.{fixedRegister, fixedRows}
+use Rattle.runner.specs.PrivateRows.{fixedRegister, fixedRows}
 use borrow.Author.Needs.{needs}
 use mathlib.Core.Path.{_∙_}
 use native.Mathlib.Omega.{arith}

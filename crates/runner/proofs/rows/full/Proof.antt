@@ -1,6 +1,6 @@
 use Rattle.lane.specs.Words.{pick}
 use Rattle.runner.proofs.rows.full.Statement.{statement}
-use Rattle.runner.specs.Rows.{full}
+use Rattle.runner.specs.PrivateRows.{full}
 use Rattle.runner.proofs.rows.full.Tie as tie
 
 returns : tie.Need-returns

@@ -1,6 +1,6 @@
 use Rattle.lane.proofs.Cases.{pick-true, pick-false}
 use Rattle.runner.proofs.rows.register_of.Statement.{statement}
-use Rattle.runner.specs.Rows.{registerOf}
+use Rattle.runner.specs.PrivateRows.{registerOf}
 use borrow.Author.Tests.{lt-ltb, le-ltb}
 use mathlib.Core.Path.{sym}
 use native.Mathlib.Omega.{arith}

@@ -1,20 +1,20 @@
-use Rattle.runner.proofs.Steps.{run-sized, done-outcome, done-image, refused-outcome, refused-image}
+use Rattle.runner.proofs.Steps.{run-sized, ran-done, ran-refused}
 use Rattle.runner.proofs.run.run.Statement.{statement}
 use borrow.Author.Needs.{needs}
 use native.Mathlib.Omega.{arith}
 use Rattle.runner.proofs.run.run.Tie as tie
 
 step-all-requires : tie.Need-step-all-requires
-step-all-requires c κs = let z = run-sized (c .before .before .before .before .before .before .before .args .s) (c .before .before .before .before .before .before .before .args .image .now) (c .before .before .before .before .before .before .before .args .dst .now) (c .before .before .before .before .before .before .before .args .list .now) (c .before .before .run-answer .result) (c .before .before .run-answer .ensures) (c .before .if1 .taken) in (z .image-long, (z .dst-long, z .list-short))
+step-all-requires c κs = run-sized (c .before .before .before .before .before .before .before .args .s) (c .before .before .before .before .before .before .before .args .image .now) (c .before .before .before .before .before .before .before .args .dst .now) (c .before .before .before .before .before .before .before .args .list .now) (c .before .before .run-answer .result) (c .before .before .run-answer .ensures) (c .before .if1 .taken)
 
 cast-t15 : tie.Need-cast-t15
-cast-t15 c = omega (arith, run-sized (c .before .before .before .before .before .before .before .before .before .before .args .s) (c .before .before .before .before .before .before .before .before .before .before .args .image .now) (c .before .before .before .before .before .before .before .before .before .before .args .dst .now) (c .before .before .before .before .before .before .before .before .before .before .args .list .now) (c .before .before .before .before .before .run-answer .result) (c .before .before .before .before .before .run-answer .ensures) (c .before .before .before .before .if1 .taken))
+cast-t15 c = omega (arith, run-sized (c .before .before .before .before .before .before .before .before .before .before .args .s) (c .before .before .before .before .before .before .before .before .before .before .args .image .now) (c .before .before .before .before .before .before .before .before .before .before .args .dst .now) (c .before .before .before .before .before .before .before .before .before .before .args .list .now) (c .before .before .before .before .before .run-answer .result) (c .before .before .before .before .before .run-answer .ensures) (c .before .before .before .before .if1 .taken) .1 .1)
 
 returns : tie.Need-returns
-returns c = (done-outcome (c .before .before .before .before .before .before .before .before .before .before .args .s) (c .before .before .before .before .before .before .before .before .before .before .args .image .now) (c .before .before .before .before .before .before .before .before .before .before .args .dst .now) (c .before .before .before .before .before .before .before .before .before .before .args .list .now) (c .before .before .before .before .before .run-answer .result) (c .before .before .before .before .before .run-answer .ensures) _ (c .before .before .before .before .if1 .taken) (c .before .before .step-all .ensures .0), done-image (c .before .before .before .before .before .before .before .before .before .before .args .s) (c .before .before .before .before .before .before .before .before .before .before .args .image .now) (c .before .before .before .before .before .before .before .before .before .before .args .dst .now) (c .before .before .before .before .before .before .before .before .before .before .args .list .now) (c .before .before .before .before .before .run-answer .result) (c .before .before .before .before .before .run-answer .ensures) _ (c .before .before .before .before .if1 .taken) (c .before .before .step-all .ensures .1))
+returns c = ran-done (c .before .before .before .before .before .before .before .before .before .before .args .s) (c .before .before .before .before .before .before .before .before .before .before .args .image .now) (c .before .before .before .before .before .before .before .before .before .before .args .dst .now) (c .before .before .before .before .before .before .before .before .before .before .args .list .now) (c .before .before .before .before .before .run-answer .result) (c .before .before .before .before .before .run-answer .ensures) _ _ (c .before .before .before .before .if1 .taken) (c .before .before .step-all .ensures .0) (c .before .before .step-all .ensures .1)
 
 returns-2 : tie.Need-returns-2
-returns-2 c = (refused-outcome (c .before .before .before .before .before .before .args .s) (c .before .before .before .before .before .before .args .image .now) (c .before .before .before .before .before .before .args .dst .now) (c .before .before .before .before .before .before .args .list .now) (c .before .run-answer .result) (c .before .run-answer .ensures) (c .if1 .left), refused-image (c .before .before .before .before .before .before .args .s) (c .before .before .before .before .before .before .args .image .now) (c .before .before .before .before .before .before .args .dst .now) (c .before .before .before .before .before .before .args .list .now) (c .before .run-answer .result) (c .before .run-answer .ensures) (c .if1 .left))
+returns-2 c = ran-refused (c .before .before .before .before .before .before .args .s) (c .before .before .before .before .before .before .args .image .now) (c .before .before .before .before .before .before .args .dst .now) (c .before .before .before .before .before .before .args .list .now) (c .before .run-answer .result) (c .before .run-answer .ensures) (c .if1 .left)
 
 pub run-spec : {M : Type 1} → statement M
 run-spec =

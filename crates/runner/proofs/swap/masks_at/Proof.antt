@@ -1,6 +1,6 @@
 use Rattle.lane.proofs.Cases.{pick-true, pick-false}
 use Rattle.runner.proofs.swap.masks_at.Statement.{statement}
-use Rattle.runner.specs.SwapRows.{masksAt}
+use Rattle.runner.specs.PrivateSwap.{masksAt}
 use borrow.Author.Tests.{lt-ltb, le-ltb}
 use mathlib.Core.Path.{sym}
 use native.Mathlib.Omega.{arith}

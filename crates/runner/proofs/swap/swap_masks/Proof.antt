@@ -4,7 +4,7 @@ use Rattle.runner.proofs.Filled.{spread-end}
 use Rattle.runner.proofs.SwapRows.{Marked, marked-start, marked-first, masks-more, NoneSeen, none-start, none-more, none-end}
 use Rattle.runner.proofs.swap.swap_masks.Statement.{statement}
 use Rattle.runner.specs.Image.{laneIn}
-use Rattle.runner.specs.SwapRows.{swapsBy, maskRows}
+use Rattle.runner.specs.PrivateSwap.{swapsBy, maskRows}
 use borrow.Author.Needs.{needs}
 use lib.ListN.{getD, length-set}
 use mathlib.Core.Path.{_∙_, sym}

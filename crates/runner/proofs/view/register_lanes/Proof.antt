@@ -1,20 +1,47 @@
-use Rattle.runner.proofs.Views.{view-part, view-none, view-other}
-use Rattle.runner.proofs.view.register_lanes.Statement.{statement}
+use Prim.Native.Nat.{ℕ}
+use mathlib.Core.Path.{ap}
+use native.Mathlib.Omega.{arith}
+use lib.ListN.{length}
 use borrow.Author.Needs.{needs}
+use Rattle.runner.specs.Image.{viewPointer}
+use Rattle.runner.proofs.Views.{part-within, part-small, part-view}
+use Rattle.runner.proofs.view.register_lanes.Statement.{statement}
 use Rattle.runner.proofs.view.register_lanes.Tie as tie
 
+register-start-requires : tie.Need-register-start-requires
+register-start-requires c κs = search needs
+
+register-count-requires : tie.Need-register-count-requires
+register-count-requires c κs = search needs
+
+add-result : tie.Need-add-result
+add-result c = let a = c .before .before .before .args in record { fits = omega (arith, c .register-count .ensures, c .before .register-start .ensures, part-small (length (a .image .now)) (a .r)) }
+
+mul-result : tie.Need-mul-result
+mul-result c = let a = c .before .before .before .args in record { fits = omega (arith, c .register-count .ensures, c .before .register-start .ensures, part-small (length (a .image .now)) (a .r)) }
+
+sub-result : tie.Need-sub-result
+sub-result c = search needs
+
+part-result-start : tie.Need-part-result-start
+part-result-start c = search needs
+
+part-result-end : tie.Need-part-result-end
+part-result-end c = let a = c .before .before .before .args in omega (arith, c .register-count .ensures, c .before .register-start .ensures, part-within (length (a .image .now)) (a .r))
+
 returns : tie.Need-returns
-returns c = view-part _ _ _ (c .before .before .if1 .taken) (c .before .if2 .taken) (c .before .before .before .start .ensures)
-
-returns-2 : tie.Need-returns-2
-returns-2 c = view-none _ _ _ (c .before .before .if1 .taken) (c .before .if2 .left) (c .before .before .before .start .ensures)
-
-returns-3 : tie.Need-returns-3
-returns-3 c = view-other _ _ (c .before .if1 .left)
+unfolding viewPointer
+returns c = let a = c .before .before .before .before .args in (part-view (a .image .now) (a .r) _ _ (c .before .before .register-start .ensures) (c .before .register-count .ensures), ap (λ (n : ℕ). (a .image .ptr .0, n)) (omega (arith, c .before .before .register-start .ensures)))
 
 pub register-lanes-spec : {M : Type 1} → statement M
 register-lanes-spec =
     tie.close
     (tie.spec
-    (λ c κs. search needs) (λ c. search needs) (λ c. search needs) (λ c. search needs) (λ c. search needs) (λ c. search needs) (λ c. search needs)
-    (λ c. search needs) returns returns-2 returns-3)
+    register-start-requires
+    register-count-requires
+    add-result
+    mul-result
+    sub-result
+    part-result-start
+    part-result-end
+    returns)

@@ -1,4 +1,5 @@
--- CONFIG by rows: the columns that it reaches, their values, and the word that a lane is left with. The operation's contracts cite these.
+-- Pass over this page with document 01 in the other hand: it is the vocabulary of private functions, and no promise rests on it. It has
+-- CONFIG by rows: the columns that it reaches, their values, and the word that a lane is left with.
 use Prim.Native.Nat.{ℕ, _-_, _%_}
 use mathlib.Core.Bool.{Bool, not, _&&_}
 use mathlib.Core.List.{List}
@@ -7,7 +8,7 @@ use Rattle.lane.specs.declared.Insn.{Insn}
 use Rattle.lane.specs.Words.{pick, Lane, constantSlot, laneConfig, laneFlag, useFlag, template, sequence, misc}
 use Rattle.lane.specs.Config.{passedOver, valueOf, miscAfter, laneConfigAfter, constantAfter}
 use Rattle.runner.specs.Image.{laneIn}
-use Rattle.runner.specs.Rows.{row, full}
+use Rattle.runner.specs.PrivateRows.{row, full}
 
 -- A row that holds the same word in the four lanes of a column.
 unfoldable pub columns : (ℕ → ℕ) → List ℕ

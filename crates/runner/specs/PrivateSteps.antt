@@ -1,4 +1,5 @@
--- What the steps through a list keep beside the image: their private functions cite these; no promise rests on them.
+-- Pass over this page with document 01 in the other hand: it is the vocabulary of private functions, and no promise rests on it. It has
+-- what the steps through a list keep beside the image.
 use Prim.Native.Nat.{ℕ}
 use mathlib.Core.Path.{_≡_}
 use mathlib.Core.List.{List}
@@ -6,7 +7,7 @@ use Rattle.lane.specs.declared.Settings.{Settings}
 use Rattle.lane.specs.declared.Insn.{Insn}
 use Rattle.runner.specs.Checks.{countOf}
 use Rattle.runner.specs.Run.{Machine, imageAt, imageAfter, cursorAfter, steps}
-use Rattle.runner.specs.Rows.{Enabled}
+use Rattle.runner.specs.PrivateRows.{Enabled}
 
 -- What an instruction that is no LOAD leaves: no address and no Dst has a part in it.
 pub record Stored (s : Settings) (i : Insn) (image after go : List ℕ) : Type 0 where

@@ -1,4 +1,5 @@
--- The quick test of an instruction, before the exact one. Its private functions cite these; no promise rests on them.
+-- Pass over this page with document 01 in the other hand: it is the vocabulary of private functions, and no promise rests on it. It has
+-- the quick test of an instruction, before the exact one.
 use Prim.Native.Nat.{ℕ, _+_, _-_, _*_, _%_, _^_}
 use mathlib.Core.Bool.{Bool, _&&_}
 use mathlib.Core.List.{List, [], _∷_}

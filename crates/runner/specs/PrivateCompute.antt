@@ -1,4 +1,5 @@
--- The stores of the computing operations, from the rows of their operands. Their private functions cite these; no promise rests on them.
+-- Pass over this page with document 01 in the other hand: it is the vocabulary of private functions, and no promise rests on it. It has
+-- the stores of the computing operations, from the rows of their operands.
 use Prim.Native.Nat.{ℕ, _+_, _-_, _*_, _/_, _%_, _^_}
 use mathlib.Core.Bool.{Bool, _||_}
 use lib.Bits.{bitOr}

@@ -1,4 +1,5 @@
--- LUT by rows: rows of floats, and the one store of a lane. The operation's contracts cite these.
+-- Pass over this page with document 01 in the other hand: it is the vocabulary of private functions, and no promise rests on it. It has
+-- LUT by rows: rows of floats, and the one store of a lane.
 use Prim.Native.Nat.{ℕ, _+_, _<_}
 use mathlib.Core.Path.{_≡_}
 use mathlib.Core.Bool.{Bool, not}

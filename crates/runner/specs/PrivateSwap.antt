@@ -1,4 +1,5 @@
--- SWAP by rows: the rows of masks that say which lanes swap, and the stores under them. The contracts of src/swap.rt cite these.
+-- Pass over this page with document 01 in the other hand: it is the vocabulary of private functions, and no promise rests on it. It has
+-- SWAP by rows: the rows of masks that say which lanes swap, and the stores under them.
 use Prim.Native.Nat.{ℕ, _+_, _-_, _/_, _%_, _<_}
 use mathlib.Core.Path.{_≡_}
 use mathlib.Core.Bool.{Bool, not, _&&_, _||_}
@@ -7,7 +8,7 @@ use lib.ListN.{getD}
 use lib.Dec.{eqb, ltb}
 use Rattle.lane.specs.Words.{pick, bit, Lane, Stores, build, enabled, laneConfig, reg}
 use Rattle.lane.specs.Swap.{swaps, inMask}
-use Rattle.runner.specs.Rows.{full}
+use Rattle.runner.specs.PrivateRows.{full}
 
 -- A word's place in the order of ranks, the lowest 0.
 unfoldable pub key : ℕ → ℕ

@@ -1,5 +1,5 @@
--- LOAD over all lanes: its masks, its cells and its stores. The contracts of src/load.rt cite these; the promises of `run` and `step` do not rest
--- on them.
+-- Pass over this page with document 01 in the other hand: it is the vocabulary of private functions, and no promise rests on it. It has
+-- LOAD over all lanes: its masks, its cells and its stores.
 use Prim.Native.Nat.{ℕ, _+_, _*_}
 use mathlib.Core.Bool.{Bool, not, _&&_}
 use mathlib.Core.List.{List, [], _∷_}
@@ -8,7 +8,7 @@ use Rattle.lane.specs.Words.{pick, bit, Lane, Stores, laneConfig, enabled}
 use Rattle.lane.specs.Load.{loads, captures, loaded, isOdd, placeOf, loadWith}
 use Rattle.runner.specs.Image.{laneIn, headOf}
 use Rattle.runner.specs.Run.{evenCell, oddCell}
-use Rattle.runner.specs.Rows.{row, full}
+use Rattle.runner.specs.PrivateRows.{row, full}
 
 -- Whether lane L's cell is the odd one of its pair, at address a.
 abbrev pub oddAt : List ℕ → ℕ → ℕ → Bool

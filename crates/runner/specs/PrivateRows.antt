@@ -1,5 +1,5 @@
--- Images after stores in all lanes, rows, and masks: the vocabulary of the operations over all lanes. Their contracts cite these; the promises of
--- `run` and `step` do not rest on them.
+-- Pass over this page with document 01 in the other hand: it is the vocabulary of private functions, and no promise rests on it. It has
+-- images after stores in all lanes, rows, and masks.
 use Prim.Native.Nat.{ℕ, _+_, _/_, _%_, _<_}
 use mathlib.Core.Path.{_≡_}
 use mathlib.Core.Bool.{Bool}
