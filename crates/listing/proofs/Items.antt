@@ -15,7 +15,7 @@ use mir.Val.{boolByte}
 use Rattle.lane.specs.Words.{pick}
 use Rattle.lane.proofs.Cases.{pick-true, pick-false}
 use Rattle.listing.specs.Forms.{Item, lit, dec, hex, name, ends}
-use Rattle.listing.specs.Places.{itemOf, formOf}
+use Rattle.listing.specs.PrivatePlaces.{itemOf, formOf}
 
 module _ (x : ℕ) where
   pub item-dec : x < 10 → itemOf x ≡ dec x

@@ -5,15 +5,9 @@ pub mod Scans
 pub mod Items
 pub mod Trips
 pub mod Rooms
-pub mod Steps
 pub mod Joins
 pub mod Walks
 pub mod Readers
 pub mod Writers
 pub mod Reports
-pub mod Ranges
-pub mod Held
-pub mod Lines
-pub mod Faults
 pub mod Programs
-pub mod Theorems

@@ -1,9 +1,8 @@
 -- What a reading that is accepted gives the run, and the program's output from it. Assumes nothing.
 use mathlib.Core.Path.{_≡_, refl, sym, ap, _∙_}
 use Prim.Native.Nat.{ℕ, _+_, _≤_}
-use native.Mathlib.Omega.{arith}
 use mathlib.Core.Bool.{Bool, true, false}
-use mathlib.Core.List.{List, [], _++_}
+use mathlib.Core.List.{List}
 use lib.ListN.{length, take, drop}
 use lib.Seq.{take-at}
 use lib.Dec.{leb, eqb}
@@ -15,7 +14,6 @@ use Rattle.runner.specs.Checks.{listAnswer}
 use Rattle.listing.specs.declared.Reading.{Reading}
 use Rattle.listing.specs.Forms.{Scan, taken, faulty, scan}
 use Rattle.listing.specs.Listing.{Read, refuseRead, refusedReading, acceptedReading, header, lines, countIn, settingsOf, inFront, readList, readRest, readHeader, readText}
-use Rattle.listing.specs.Report.{reported}
 use Rattle.listing.specs.Program.{runReport, refusalReport, reportOf, output}
 
 -- an accepted reading's length is its list's, which fits the room
@@ -89,15 +87,3 @@ module _ (text : List ℕ) (r : Reading) (e : r ≡ readText 6144 text .reading)
   pub output-fits : r .answer ≡ 0 → (r .length ≡ length (readText 6144 text .list)) × (length (readText 6144 text .list) ≤ 6144)
   output-fits h =
       let f = text-fits 6144 text (sym (ap (λ (x : Reading). x .answer) e) ∙ h) in (ap (λ (x : Reading). x .length) e ∙ f .length-is, f .enough)
-
--- what is put in front of a room fits it
-pub reported-within : (room : ℕ) (bs : List ℕ) → length (reported room bs) ≤ room
-unfolding reported
-reported-within room bs = go (leb (length bs) room) refl
-  where
-    go : (t : Bool) → leb (length bs) room ≡ t → length (pick t bs []) ≤ room
-    go true e = rw (pick-true true bs [] refl) (leb-true (length bs) room e)
-    go false e = rw (pick-false false bs [] refl) (omega arith)
-
-pub reported-in : (r room : ℕ) (after bs : List ℕ) → r ≡ length (reported room bs) → length after ≡ room → r ≤ length after
-reported-in r room after bs e k = omega (arith, reported-within room bs)

@@ -3,19 +3,21 @@ use mathlib.Core.Path.{_≡_, refl, sym, ap, _∙_}
 use Prim.Native.Nat.{ℕ, suc, _+_, _-_, _*_, _<_, _≤_}
 use native.Mathlib.Nat.{sub-zero}
 use native.Mathlib.Omega.{arith}
-use mathlib.Core.Bool.{true, false}
+use mathlib.Core.Bool.{Bool, true, false}
 use mathlib.Core.List.{List, [], _++_}
-use lib.ListN.{length, take, drop}
-use lib.Seq.{getD-take}
+use lib.ListN.{length, take, drop, drop-of-length-le}
+use lib.Seq.{getD-take, length-take-le}
+use lib.Dec.{eqb}
 use borrow.Author.Tests.{eq-eqb, ne-eqb, le-leb, lt-leb}
 use Rattle.lane.specs.declared.Settings.{Settings}
 use Rattle.lane.specs.Words.{pick}
 use Rattle.lane.proofs.Cases.{pick-true, pick-false}
 use Rattle.runner.specs.declared.Found.{Found}
 use Rattle.runner.specs.Checks.{listAnswer}
-use Rattle.listing.specs.declared.Cursor.{Cursor}
-use Rattle.listing.specs.Forms.{Scan, taken, faulty, joined, ends, scan, takes, spell, bytes, literal}
-use Rattle.listing.specs.Places.{itemOf, formOf, numbers, Grown, Scans}
+use Rattle.listing.specs.declared.Scanned.{Scanned}
+use Rattle.listing.specs.Forms.{Form, Scan, taken, faulty, joined, follow, ends, scan, scanItem, scanByte, takes, spell, bytes, literal}
+use Rattle.listing.specs.PrivatePlaces.{itemOf, formOf, numbers, Grown, Finds, Scans}
+use Rattle.listing.specs.PrivateReader.{formBy, FoundAt}
 use Rattle.listing.specs.Listing.{header, line, lines, settingsOf, countIn, refuseRead, acceptedReading, readList, readRest, readHeader, readText}
 use Rattle.listing.proofs.Joins.{joined-none, joined-joined, joined-end, linesIn, scan-then, scan-not}
 use Rattle.listing.proofs.Rooms.{grown-none, grown-more}
@@ -54,6 +56,40 @@ pub header-lines : linesIn header ≡ 9
 unfolding linesIn header ends bytes spell literal pick
 header-lines = refl
 
+-- ---- what the reader finds
+
+pub by-header : (k : ℕ) → k ≡ 0 → formBy k ≡ header
+unfolding formBy
+by-header k h = pick-true _ _ _ (eq-eqb k 0 h)
+
+pub by-line : (k : ℕ) → (k ≡ 0 → ⊥) → formBy k ≡ line
+unfolding formBy
+by-line k h = pick-false _ _ _ (ne-eqb k 0 h)
+
+no-text : (b : Bool) → scan (pick b header line) [] ≡ faulty 0
+unfolding pick scan follow scanItem scanByte header line bytes spell literal
+no-text true = refl
+no-text false = refl
+
+pub found-past : (t : List ℕ) (at first k : ℕ) (room : List ℕ) → length t < at
+    → FoundAt t at first k (record { good = false; at = length t; line = first; n = 0; numbers = room })
+unfolding pick formBy
+found-past t at first k room h =
+    let z : first - first ≡ 0 = omega arith in
+    record {
+      scanned = rw (drop-of-length-le t {i = at} (omega arith), z) (no-text (eqb k 0));
+      held = omega arith;
+      within = omega arith;
+      onward = omega arith;
+      few = omega arith;
+    }
+
+-- as many numbers as the form has
+found-all : (f : Form) (u t : List ℕ) (first : ℕ) (c : Scanned) → Finds (scan f u) t first c → c .good ≡ true → c .n ≡ numbers f
+found-all f u t first c e b =
+    sym (length-take-le (c .n) (c .numbers) (e .held))
+    ∙ scan-whole f u (take (c .n) (c .numbers)) (drop (c .at) t) (e .scanned ∙ pick-true _ _ _ b) .count
+
 -- ---- instruction lines
 
 lines-more : (count i : ℕ) → i < count → lines (count - i) ≡ line ++ lines (count - (i + 1))
@@ -63,7 +99,7 @@ lines-more count i h =
     rw e
 
 module _ (t : List ℕ) (from count : ℕ) (before : List ℕ) where
-  pub record Lining (form words : List ℕ) (at n i : ℕ) : Type 0 where
+  pub record Lining (words : List ℕ) (at n i : ℕ) : Type 0 where
     pub ns : List ℕ
     pub goes : scan (lines count) (drop from t) ≡ joined ns i (scan (lines (count - i)) (drop at t))
     pub grown : Grown 0 n before words ns
@@ -71,11 +107,9 @@ module _ (t : List ℕ) (from count : ℕ) (before : List ℕ) where
     pub within : at ≤ length t
     pub upTo : i ≤ count
     pub six : n ≡ 6 * i
-    pub lined : formOf form ≡ line
-    pub short : length form ≡ 31
 
-  pub lining-start : (form : List ℕ) → from ≤ length t → formOf form ≡ line → length form ≡ 31 → Lining form before from 0 0
-  lining-start form h e k =
+  pub lining-start : from ≤ length t → Lining before from 0 0
+  lining-start h =
       record {
         ns = [];
         goes = rw (sub-zero count) (sym (joined-none (scan (lines count) (drop from t))));
@@ -84,52 +118,52 @@ module _ (t : List ℕ) (from count : ℕ) (before : List ℕ) where
         within = h;
         upTo = omega arith;
         six = refl;
-        lined = e;
-        short = k;
       }
 
-  module _ (form words : List ℕ) (at n i : ℕ) (s : Lining form words at n i) where
-    pub lining-room : count ≤ 1024 → 6144 < length before → i < count → n + numbers (formOf form) < length words
-    lining-room h k l = rw (s .lined, line-numbers) (omega (arith, s .six, s .same))
+  module _ (words : List ℕ) (at n i : ℕ) (s : Lining words at n i) where
+    module _ (c : Scanned) (l : i < count) (found : FoundAt t at (10 + i) 1 c) where
+      e : Finds (scan line (drop at t)) t (10 + i) c
+      e = rw (by-line 1 (λ z. omega arith)) at found
 
-    module _ (c : Cursor) (after : List ℕ) (l : i < count)
-        (e : Scans (scan (formOf form) (drop at t)) t n (10 + i) (length form) words after c) where
-      pub lining-more : c .good ≡ true → length after ≡ length words → Lining form after (c .at) (c .n) (i + 1)
-      lining-more b k =
-          let q : scan line (drop at t) ≡ taken (e .ns) (drop (c .at) t) = rw (s .lined) at (e .scanned ∙ pick-true _ _ _ b) in
+      six-more : c .good ≡ true → c .n ≡ 6
+      six-more b = found-all line (drop at t) t (10 + i) c e b ∙ line-numbers
+
+      pub lining-room : c .good ≡ true → count ≤ 1024 → 6144 < length before → n + c .n ≤ length words
+      lining-room b h k = omega (arith, six-more b, s .six, s .same)
+
+      pub lining-more : c .good ≡ true → (m : ℕ) (after : List ℕ) → Grown n m words after (take (c .n) (c .numbers))
+          → length after ≡ length words → Lining after (c .at) m (i + 1)
+      lining-more b m after g k =
+          let q : scan line (drop at t) ≡ taken (take (c .n) (c .numbers)) (drop (c .at) t) = e .scanned ∙ pick-true _ _ _ b in
           record {
-            ns = s .ns ++ e .ns;
+            ns = s .ns ++ take (c .n) (c .numbers);
             goes =
                 s .goes
-                ∙ rw (lines-more count i l, scan-then line (lines (count - (i + 1))) (drop at t) (e .ns) (drop (c .at) t) q, line-lines)
-                (joined-joined (s .ns) (e .ns) i 1 _);
-            grown = grown-more 0 n before words (s .ns) (s .grown) (c .n) after (e .ns) (e .grown);
+                ∙ rw (lines-more count i l, scan-then line (lines (count - (i + 1))) (drop at t) (take (c .n) (c .numbers)) (drop (c .at) t) q, line-lines)
+                (joined-joined (s .ns) (take (c .n) (c .numbers)) i 1 _);
+            grown = grown-more 0 n before words (s .ns) (s .grown) m after (take (c .n) (c .numbers)) g;
             same = k ∙ s .same;
             within = e .within;
             upTo = omega arith;
-            six =
-                omega
-                (arith, s .six, e .grown .upTo, line-numbers, scan-whole line (drop at t) (e .ns) (drop (c .at) t) q .count);
-            lined = s .lined;
-            short = s .short;
+            six = omega (arith, s .six, g .upTo, six-more b, length-take-le (c .n) (c .numbers) (e .held));
           }
 
       pub lining-stop : c .good ≡ false → count ≤ 1024
-          → Scans (scan (lines count) (drop from t)) t 0 10 2048 before after
-          (record { good = false; at = c .at; line = c .line; n = c .n })
+          → Scans (scan (lines count) (drop from t)) t 0 10 2048 before words
+          (record { good = false; at = c .at; line = c .line; n = n })
       unfolding pick joined
       lining-stop b h =
-          let q : scan line (drop at t) ≡ faulty (c .line - (10 + i)) = rw (s .lined) at (e .scanned ∙ pick-false _ _ _ b) in
+          let q : scan line (drop at t) ≡ faulty (c .line - (10 + i)) = e .scanned ∙ pick-false _ _ _ b in
           let k : i + (c .line - (10 + i)) ≡ c .line - 10 = omega (arith, e .onward) in
           record {
-            ns = s .ns ++ e .ns;
+            ns = s .ns;
             scanned =
                 s .goes
                 ∙ rw (lines-more count i l, scan-not line (lines (count - (i + 1))) (drop at t) (c .line - (10 + i)) q) (ap faulty k);
-            grown = grown-more 0 n before words (s .ns) (s .grown) (c .n) after (e .ns) (e .grown);
+            grown = s .grown;
             within = e .within;
             onward = omega (arith, e .onward);
-            few = omega (arith, e .few, s .short);
+            few = omega (arith, e .few);
           }
 
     pub lining-end : count ≤ i → count ≤ 1024
@@ -228,10 +262,18 @@ read-same : (room : ℕ) (ns ms rest : List ℕ) → settingsOf ns ≡ settingsO
 unfolding readHeader
 read-same room ns ms rest e c = rw (c, e, rest-same room ns ms (scan (lines (countIn ms)) rest) e c)
 
-pub read-head : (room : ℕ) (t head before ns rest : List ℕ) (n : ℕ) → length t ≤ 65536 → scan header t ≡ taken ns rest
-    → Grown 0 n before head ns → readText room t ≡ readHeader room (taken head rest)
-read-head room t head before ns rest n h e g =
-    let k : n ≡ 9 = omega (arith, g .upTo, scan-whole header t ns rest e .count, header-numbers) in
-    let q : ns ≡ take 9 head = sym (g .front) ∙ ap (λ (m : ℕ). take m head) k in
-    read-headed room t h ns rest e
-    ∙ read-same room ns head rest (ap settingsOf q ∙ settings-take head) (ap countIn q ∙ getD-take 9 head 8 0 (omega arith))
+pub read-head : (room : ℕ) (t : List ℕ) (c : Scanned) → length t ≤ 65536 → FoundAt t 0 1 0 c → c .good ≡ true
+    → readText room t ≡ readHeader room (taken (c .numbers) (drop (c .at) t))
+read-head room t c h found b =
+    let e : Finds (scan header t) t 1 c = rw (by-header 0 refl) at found in
+    let k : c .n ≡ 9 = found-all header t t 1 c e b ∙ header-numbers in
+    let q : scan header t ≡ taken (take 9 (c .numbers)) (drop (c .at) t) = e .scanned ∙ pick-true _ _ _ b ∙ ap (λ (m : ℕ). taken (take m (c .numbers)) (drop (c .at) t)) k in
+    read-headed room t h (take 9 (c .numbers)) (drop (c .at) t) q
+    ∙ read-same room (take 9 (c .numbers)) (c .numbers) (drop (c .at) t) (settings-take (c .numbers)) (getD-take 9 (c .numbers) 8 0 (omega arith))
+
+pub read-headless : (room : ℕ) (t : List ℕ) (c : Scanned) → length t ≤ 65536 → FoundAt t 0 1 0 c → c .good ≡ false
+    → readText room t ≡ refuseRead 10 (c .line) 0
+read-headless room t c h found b =
+    let e : Finds (scan header t) t 1 c = rw (by-header 0 refl) at found in
+    let k : 1 + (c .line - 1) ≡ c .line = omega (arith, e .onward) in
+    read-unheaded room t h (c .line - 1) (e .scanned ∙ pick-false _ _ _ b) ∙ ap (λ (m : ℕ). refuseRead 10 m 0) k

@@ -4,16 +4,18 @@ use Prim.Native.Nat.{ℕ, zero, suc, _+_, _-_, _*_, _/_, _%_, _^_, _<_, _≤_}
 use native.Mathlib.Nat.{not-suc-le-zero}
 use native.Mathlib.Numerals.{add-one}
 use native.Mathlib.Omega.{arith}
-use mathlib.Core.Bool.{true}
+use mathlib.Core.Bool.{Bool, true, false}
 use mathlib.Core.List.{List, [], _∷_, _++_, append-nil}
 use lib.ListN.{length, getD, drop}
-use lib.Dec.{eqb}
-use borrow.Author.Tests.{eq-eqb, ne-eqb, le-leb, lt-leb, eqb-true}
+use lib.Dec.{eqb, leb}
+use borrow.Author.Tests.{eq-eqb, ne-eqb, le-leb, lt-leb, eqb-true, leb-true}
 use Rattle.lane.specs.Words.{pick}
 use Rattle.lane.proofs.Cases.{pick-true, pick-false}
+use Rattle.listing.specs.declared.Reporting.{Reporting}
+use Rattle.listing.specs.Listing.{inFront}
 use Rattle.listing.specs.Forms.{Form, dec, render, renderItem, takes, spell, bytes, literal, digits}
-use Rattle.listing.specs.Places.{itemOf, formOf, numbers, widest, widestItem, Grown, Renders}
-use Rattle.listing.specs.Report.{widthIn, widthOf, outcomeForm, outcomeLines, changeForm, registerOf, changeLine, changes, report, reported}
+use Rattle.listing.specs.PrivatePlaces.{itemOf, formOf, numbers, widest, widestItem, Grown, Renders}
+use Rattle.listing.specs.Report.{widthIn, widthOf, outcomeForm, outcomeLines, changeForm, registerOf, changeLine, changes, Printed, report, reported, reporting, Reports}
 use Rattle.listing.proofs.Names.{every, every-at}
 use Rattle.listing.proofs.Rooms.{grown-none, grown-more}
 use Rattle.listing.proofs.Trips.{render-append}
@@ -156,21 +158,45 @@ module _ (b a : List ℕ) (place : ℕ) (before : List ℕ) where
 module _ (answer steps place cursor : ℕ) (b a before page : List ℕ) (at : ℕ)
     (s : Renders (outcomeLines answer steps place cursor) 0 52 before page at) where
   pub report-done : (after : List ℕ) (r : ℕ) → answer ≡ 0 → Renders (changes b a 384) at 11136 page after r
-      → Grown 0 r before after (report answer steps place cursor b a)
+      → Grown 0 r before after (report answer steps place cursor b a .bytes)
   unfolding report
   report-done after r e c =
       rw (pick-true (eqb answer 0) (changes b a 384) [] (eq-eqb answer 0 e))
       (grown-more 0 at before page _ (s .grown) r after _ (c .grown))
 
-  pub report-refused : (answer ≡ 0 → ⊥) → Grown 0 at before page (report answer steps place cursor b a)
+  pub report-refused : (answer ≡ 0 → ⊥) → Grown 0 at before page (report answer steps place cursor b a .bytes)
   unfolding report
   report-refused e =
       rw (pick-false (eqb answer 0) (changes b a 384) [] (ne-eqb answer 0 e), append-nil (outcomeLines answer steps place cursor)) (s .grown)
 
-pub reported-short : (room : ℕ) (bs : List ℕ) → room < length bs → reported room bs ≡ []
-unfolding reported
-reported-short room bs h = pick-false _ _ _ (lt-leb (length bs) room h)
+-- ---- in lent room
 
-pub reported-whole : (room : ℕ) (bs : List ℕ) → length bs ≤ room → reported room bs ≡ bs
-unfolding reported
-reported-whole room bs h = pick-true _ _ _ (le-leb (length bs) room h)
+module _ (p : Printed) (before : List ℕ) where
+  pub reports-short : length before < length (p .bytes) → Reports p before before (record { answer = 11; length = 0 })
+  unfolding reported reporting
+  reports-short h =
+      record {
+        told = sym (pick-false _ _ _ (lt-leb (length (p .bytes)) (length before) h));
+        put = ap (λ (l : List ℕ). inFront l before) (sym (pick-false _ _ _ (lt-leb (length (p .bytes)) (length before) h)));
+      }
+
+  pub reports-whole : (n : ℕ) (after : List ℕ) → n ≡ length (p .bytes) → length (p .bytes) ≤ length before → after ≡ inFront (p .bytes) before
+      → Reports p before after (record { answer = p .answer; length = n })
+  unfolding reported reporting
+  reports-whole n after e h q =
+      record {
+        told =
+            ap (λ (k : ℕ). record { answer = p .answer; length = k }) e
+            ∙ sym (pick-true _ _ _ (le-leb (length (p .bytes)) (length before) h));
+        put = q ∙ ap (λ (l : List ℕ). inFront l before) (sym (pick-true _ _ _ (le-leb (length (p .bytes)) (length before) h)));
+      }
+
+  -- what is returned fits the room
+  pub reports-within : (after : List ℕ) (r : Reporting) → Reports p before after r → length after ≡ length before → r .length ≤ length after
+  unfolding reporting pick
+  reports-within after r h k = rw (h .told, k) (go (leb (length (p .bytes)) (length before)) refl)
+    where
+      go : (t : Bool) → leb (length (p .bytes)) (length before) ≡ t
+          → pick {X = Reporting} t (record { answer = p .answer; length = length (p .bytes) }) (record { answer = 11; length = 0 }) .length ≤ length before
+      go true e = leb-true (length (p .bytes)) (length before) e
+      go false e = omega arith

@@ -8,7 +8,7 @@ use mathlib.Core.List.{List, [], _∷_, _++_, append-nil, append-assoc}
 use lib.ListN.{length, getD, take, drop, set, length-append, length-take, length-drop}
 use lib.Seq.{paste-suc, take-length, take-suc, take-suc-set, take-set-le, length-take-le}
 use Rattle.listing.specs.Forms.{glyph, digits, nameOf}
-use Rattle.listing.specs.Places.{Grown}
+use Rattle.listing.specs.PrivatePlaces.{Grown}
 
 pub grown-none : (p : ℕ) (before : List ℕ) → Grown p p before before []
 grown-none p before = record { front = sym (append-nil (take p before)); upTo = sym (add-zero p) }
@@ -69,12 +69,12 @@ number-grows b (suc w) n at before after v z h g e =
     let k : at + w + 1 ≡ at + suc w = omega arith in
     rw (q, ← k, ← e) (grown-store at (at + w) before after _ g′ v (omega arith))
 
-pub name-grows : (op at i : ℕ) (before after : List ℕ) → i < length (nameOf op) → at + i < length after
-    → Grown at (at + i) before after (take i (nameOf op)) → (v : ℕ) → getD (nameOf op) i 0 ≡ v
-    → Grown at (at + (i + 1)) before (set after (at + i) v) (take (i + 1) (nameOf op))
-name-grows op at i before after l h g v e =
+pub list-grows : (xs : List ℕ) (at i : ℕ) (before after : List ℕ) → i < length xs → at + i < length after
+    → Grown at (at + i) before after (take i xs) → (v : ℕ) → getD xs i 0 ≡ v
+    → Grown at (at + (i + 1)) before (set after (at + i) v) (take (i + 1) xs)
+list-grows xs at i before after l h g v e =
     let k : at + i + 1 ≡ at + (i + 1) = omega arith in
-    rw (← k, add-one i, take-suc (nameOf op) i 0 l, e) (grown-store at (at + i) before after _ g v h)
+    rw (← k, add-one i, take-suc xs i 0 l, e) (grown-store at (at + i) before after _ g v h)
 
 pub no-digits : (b w n at : ℕ) (before : List ℕ) → w ≤ 0 → Grown at (at + w) before before (digits b w n)
 unfolding digits

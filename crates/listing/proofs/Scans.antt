@@ -10,11 +10,11 @@ use mathlib.Core.List.{List, [], _∷_, _++_}
 use lib.ListN.{length, getD, drop, length-append, length-drop, List·getD-eq-default, drop-of-length-le}
 use lib.Seq.{drop-cons, drop-drop, getD-drop}
 use lib.Arith.{digits-lt}
-use borrow.Author.Tests.{eq-eqb, ne-eqb, lt-ltb, eqb-false}
+use borrow.Author.Tests.{eq-eqb, ne-eqb, lt-ltb}
 use Rattle.lane.specs.Words.{pick}
 use Rattle.lane.proofs.Cases.{pick-true, pick-false}
 use Rattle.listing.specs.Forms.{Scan, taken, faulty, digit, numeric, number, nameOf, begins, opOf, scanByte, scanNumber, scanName}
-use Rattle.listing.specs.Places.{Gets}
+use Rattle.listing.specs.PrivatePlaces.{Gets}
 use Rattle.listing.proofs.Digits.{both-true, numeric-length, numeric-stops}
 use Rattle.listing.proofs.Names.{begins-split, opOf-begins}
 
@@ -23,17 +23,17 @@ use Rattle.listing.proofs.Names.{begins-split, opOf-begins}
 pub gets-nothing : (s : Scan) (t : List ℕ) (at : ℕ) → at ≤ length t → s ≡ faulty 0
     → Gets s t (record { good = false; at = at; count = 0; value = 0 })
 unfolding pick
-gets-nothing s t at h e = record { scanned = e; within = h; one = omega arith; idle = λ z. refl }
+gets-nothing s t at h e = record { scanned = e; within = h; one = omega arith }
 
 pub gets-one : (s : Scan) (t : List ℕ) (at v : ℕ) → at ≤ length t → s ≡ taken (v ∷ []) (drop at t)
     → Gets s t (record { good = true; at = at; count = 1; value = v })
 unfolding pick
-gets-one s t at v h e = record { scanned = e; within = h; one = omega arith; idle = λ z. absurd (eqb-false 1 0 refl z) }
+gets-one s t at v h e = record { scanned = e; within = h; one = omega arith }
 
 pub gets-none : (s : Scan) (t : List ℕ) (at : ℕ) → at ≤ length t → s ≡ taken [] (drop at t)
     → Gets s t (record { good = true; at = at; count = 0; value = 0 })
 unfolding pick
-gets-none s t at h e = record { scanned = e; within = h; one = omega arith; idle = λ z. refl }
+gets-none s t at h e = record { scanned = e; within = h; one = omega arith }
 
 -- ---- digits
 

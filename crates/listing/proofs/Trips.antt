@@ -12,7 +12,7 @@ use borrow.Author.Tests.{eq-eqb, ne-eqb, eqb-true, eqb-false}
 use Rattle.lane.specs.Words.{pick}
 use Rattle.lane.proofs.Cases.{pick-true, pick-false}
 use Rattle.listing.specs.Forms.{Item, lit, dec, hex, name, Form, Scan, taken, faulty, joined, follow, ends, scan, scanItem, scanByte, scanNumber, scanName, takes, render, renderItem, number, numeric, digits, opOf, nameOf}
-use Rattle.listing.specs.Places.{numbers, widest}
+use Rattle.listing.specs.PrivatePlaces.{numbers, widest}
 use Rattle.listing.proofs.Digits.{numeric-digits, number-digits, number-small, digits-number, length-digits}
 use Rattle.listing.proofs.Joins.{joined-taken, joined-whole, scan-item}
 use Rattle.listing.proofs.Names.{begins-split, opOf-name, opOf-begins}

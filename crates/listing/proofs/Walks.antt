@@ -1,47 +1,42 @@
 -- The loops that scan and that render a form: what is known each time their tests are reached. Assumes nothing.
 use mathlib.Core.Path.{_≡_, refl, sym, _∙_}
-use Prim.Native.Nat.{ℕ, zero, suc, _+_, _-_, _^_, _<_, _≤_}
+use Prim.Native.Nat.{ℕ, zero, suc, _+_, _-_, _<_, _≤_}
 use native.Mathlib.Nat.{add-zero}
 use native.Mathlib.Omega.{arith}
 use mathlib.Core.Bool.{true, false}
 use mathlib.Core.List.{List, [], _∷_, _++_, append-nil, append-assoc}
 use lib.ListN.{length, getD, take, drop, set, length-set, length-append, drop-of-length-le}
 use lib.Seq.{getD-drop, drop-drop}
+use lib.Dec.{eqb}
+use mir.Val.{boolByte}
 use Rattle.lane.specs.Words.{pick}
-use Rattle.lane.proofs.Cases.{pick-true, pick-false}
-use Rattle.listing.specs.declared.Step.{Step}
+use Rattle.lane.proofs.Cases.{pick-true, pick-false, byte-small}
+use Rattle.listing.specs.declared.Got.{Got}
 use Rattle.listing.specs.Forms.{Item, lit, dec, hex, name, render, renderItem, Form, taken, joined, ends, scan, scanItem, takes}
-use Rattle.listing.specs.Places.{itemOf, formOf, numbers, widest, widestItem, Grown, Gets, Scans, Renders}
-use Rattle.listing.specs.Held.{stepAt}
-use Rattle.listing.proofs.Items.{form-cons}
-use Rattle.listing.proofs.Lines.{ends-one}
-use Rattle.listing.proofs.Steps.{gotOf, step-gets}
+use Rattle.listing.specs.PrivatePlaces.{itemOf, formOf, numbers, widest, widestItem, Grown, Gets, Finds, Renders}
+use Rattle.listing.proofs.Items.{ends-byte, form-cons}
 use Rattle.listing.proofs.Joins.{joined-none, joined-joined, joined-end, joined-fault, scan-item, scan-fault}
 use Rattle.listing.proofs.Rooms.{grown-none, grown-some, grown-more}
 use Rattle.listing.proofs.Digits.{length-digits}
 use Rattle.listing.proofs.Names.{length-names}
 use Rattle.listing.proofs.Trips.{item-taken, takes-one}
 
-module _ (form t : List ℕ) (from first place : ℕ) (before : List ℕ) where
-  pub record Scanning (out : List ℕ) (f at n line : ℕ) : Type 0 where
-    pub ns : List ℕ
-    pub goes : scan (formOf form) (drop from t) ≡ joined ns (line - first) (scan (formOf (drop f form)) (drop at t))
-    pub grown : Grown place n before out ns
-    pub same : length out ≡ length before
+module _ (form t : List ℕ) (from first : ℕ) where
+  pub record Scanning (out : List ℕ) (f at line n : ℕ) : Type 0 where
+    pub goes : scan (formOf form) (drop from t) ≡ joined (take n out) (line - first) (scan (formOf (drop f form)) (drop at t))
+    pub ten : length out ≡ 10
     pub within : at ≤ length t
     pub inForm : f ≤ length form
     pub onward : first ≤ line
     pub few : line ≤ first + f
-    pub room : n + numbers (formOf (drop f form)) ≤ place + numbers (formOf form)
+    pub room : n + numbers (formOf (drop f form)) ≤ numbers (formOf form)
 
-  pub scanning-start : from ≤ length t → Scanning before 0 from place first
-  scanning-start h =
+  pub scanning-start : (out : List ℕ) → length out ≡ 10 → from ≤ length t → Scanning out 0 from first 0
+  scanning-start out k h =
       let z : first - first ≡ 0 = omega arith in
       record {
-        ns = [];
         goes = rw z (sym (joined-none (scan (formOf form) (drop from t))));
-        grown = grown-none place before;
-        same = refl;
+        ten = k;
         within = h;
         inForm = omega arith;
         onward = omega arith;
@@ -49,89 +44,71 @@ module _ (form t : List ℕ) (from first place : ℕ) (before : List ℕ) where
         room = omega arith;
       }
 
-  module _ (out : List ℕ) (f at n line : ℕ) (s : Scanning out f at n line) where
-    -- an item takes at least as many numbers as are left for it
-    pub room-for : f < length form → place + numbers (formOf form) < length before → n < length out
-    room-for l h = omega (arith, s .room, s .same)
+  module _ (out : List ℕ) (f at line n : ℕ) (s : Scanning out f at line n) (h : numbers (formOf form) < 10) where
+    pub room-for : n < length out
+    room-for = omega (arith, s .room, s .ten)
 
-    module _ (st : Step) (l : f < length form) (found : st ≡ stepAt t at line (getD form f 0)) where
-      gets : Gets (scanItem (itemOf (getD form f 0)) (drop at t)) t (gotOf st)
-      gets = step-gets t at line (getD form f 0) (s .within) st found .0
-
-      lined : st .good ≡ true → st .line ≡ line + ends (itemOf (getD form f 0))
-      lined = step-gets t at line (getD form f 0) (s .within) st found .1
-
-      pub count-one : st .count ≤ 1
-      count-one = gets .one
-
-      pub scanning-stop : st .good ≡ false
-          → Scans (scan (formOf form) (drop from t)) t place first (length form) before out
-          (record { good = false; at = at; line = line; n = n })
+    module _ (g : Got) (l : f < length form) (e : Gets (scanItem (itemOf (getD form f 0)) (drop at t)) t g) where
+      pub scanning-stop : g .good ≡ false → length form ≤ 100
+          → Finds (scan (formOf form) (drop from t)) t first (record { good = false; at = at; line = line; n = n; numbers = out })
       unfolding pick
-      scanning-stop b =
+      scanning-stop b k =
           record {
-            ns = s .ns;
             scanned =
                 s .goes
-                ∙ rw (form-cons form f l, scan-fault _ (formOf (drop (f + 1) form)) (drop at t) 0 (gets .scanned ∙ pick-false _ _ _ b))
-                (joined-fault (s .ns) (line - first));
-            grown = s .grown;
+                ∙ rw (form-cons form f l, scan-fault _ (formOf (drop (f + 1) form)) (drop at t) 0 (e .scanned ∙ pick-false _ _ _ b))
+                (joined-fault (take n out) (line - first));
+            held = omega (arith, room-for);
             within = s .within;
             onward = s .onward;
-            few = omega (arith, s .few, s .inForm);
+            few = omega (arith, s .few);
           }
 
-      some : st .good ≡ true → scanItem (itemOf (getD form f 0)) (drop at t) ≡ taken (take (st .count) (st .value ∷ [])) (drop (st .at) t)
-      some b = gets .scanned ∙ pick-true _ _ _ b
+      some : g .good ≡ true → scanItem (itemOf (getD form f 0)) (drop at t) ≡ taken (take (g .count) (g .value ∷ [])) (drop (g .at) t)
+      some b = e .scanned ∙ pick-true _ _ _ b
 
       counted : (k v : ℕ) → k ≤ 1 → length (take k (v ∷ [])) ≡ k
-      counted zero v h = refl
-      counted (suc zero) v h = refl
-      counted (suc (suc k)) v h = absurd (no h)
+      counted zero v i = refl
+      counted (suc zero) v i = refl
+      counted (suc (suc k)) v i = absurd (no i)
         where
           no : suc (suc k) ≤ 1 → ⊥
           no z = omega arith
 
-      taken-count : st .good ≡ true → st .count ≡ takes (itemOf (getD form f 0))
+      taken-count : g .good ≡ true → g .count ≡ takes (itemOf (getD form f 0))
       taken-count b =
-          sym (counted (st .count) (st .value) (gets .one))
-          ∙ item-taken (itemOf (getD form f 0)) (drop at t) _ (drop (st .at) t) (some b) .count
+          sym (counted (g .count) (g .value) (e .one))
+          ∙ item-taken (itemOf (getD form f 0)) (drop at t) _ (drop (g .at) t) (some b) .count
 
       room-cons : numbers (formOf (drop f form)) ≡ takes (itemOf (getD form f 0)) + numbers (formOf (drop (f + 1) form))
       unfolding numbers
       room-cons = rw (form-cons form f l)
 
-      pub line-fits : st .good ≡ true → first + length form < 2 ^ 32 → st .line < 2 ^ 32
-      line-fits b h = omega (arith, lined b, ends-one (itemOf (getD form f 0)), s .few)
-
-      pub scanning-more : st .good ≡ true → place + numbers (formOf form) < length before
-          → Scanning (set out n (st .value)) (f + 1) (st .at) (n + st .count) (st .line)
-      scanning-more b h =
-          let k : line - first + ends (itemOf (getD form f 0)) ≡ st .line - first = omega (arith, lined b, s .onward) in
+      pub scanning-more : g .good ≡ true
+          → Scanning (set out n (g .value)) (f + 1) (g .at) (line + boolByte (eqb (getD form f 0) 10)) (n + g .count)
+      scanning-more b =
+          let k : line - first + ends (itemOf (getD form f 0)) ≡ line + boolByte (eqb (getD form f 0) 10) - first = omega (arith, ends-byte (getD form f 0), s .onward) in
+          let w = grown-some n n out out [] (grown-none n out) (g .value) (g .count) room-for (e .one) in
           record {
-            ns = s .ns ++ take (st .count) (st .value ∷ []);
             goes =
                 s .goes
-                ∙ rw (form-cons form f l, scan-item _ (formOf (drop (f + 1) form)) (drop at t) _ _ (some b), ← k)
-                (joined-joined (s .ns) _ (line - first) _ _);
-            grown = grown-some place n before out (s .ns) (s .grown) (st .value) (st .count) (room-for l h) (gets .one);
-            same = length-set out n (st .value) ∙ s .same;
-            within = gets .within;
+                ∙ rw (form-cons form f l, scan-item _ (formOf (drop (f + 1) form)) (drop at t) _ _ (some b), ← k, w .front)
+                (joined-joined (take n out) _ (line - first) _ _);
+            ten = length-set out n (g .value) ∙ s .ten;
+            within = e .within;
             inForm = omega arith;
-            onward = omega (arith, lined b, s .onward);
-            few = omega (arith, lined b, s .few, ends-one (itemOf (getD form f 0)));
+            onward = omega (arith, s .onward);
+            few = omega (arith, s .few, byte-small (eqb (getD form f 0) 10));
             room = omega (arith, s .room, room-cons, taken-count b);
           }
 
-    pub scanning-end : length form ≤ f
-        → Scans (scan (formOf form) (drop from t)) t place first (length form) before out
-        (record { good = true; at = at; line = line; n = n })
+    pub scanning-end : length form ≤ f → length form ≤ 100
+        → Finds (scan (formOf form) (drop from t)) t first (record { good = true; at = at; line = line; n = n; numbers = out })
     unfolding pick formOf scan
-    scanning-end l =
+    scanning-end l k =
         record {
-          ns = s .ns;
-          scanned = s .goes ∙ rw (drop-of-length-le form {i = f} l) (joined-end (s .ns) (line - first) (drop at t));
-          grown = s .grown;
+          scanned = s .goes ∙ rw (drop-of-length-le form {i = f} l) (joined-end (take n out) (line - first) (drop at t));
+          held = omega (arith, room-for);
           within = s .within;
           onward = s .onward;
           few = omega (arith, s .few, s .inForm);

@@ -1,25 +1,24 @@
 -- The writer: the loop over instruction lines, and what each return says. Assumes nothing.
 use mathlib.Core.Path.{_≡_, refl, sym, ap, _∙_}
-use Prim.Native.Nat.{ℕ, suc, _+_, _-_, _*_, _%_, _<_, _≤_}
+use Prim.Native.Nat.{ℕ, zero, suc, _+_, _-_, _*_, _<_, _≤_}
 use native.Mathlib.Nat.{sub-zero}
 use native.Mathlib.Omega.{arith}
-use mathlib.Core.Bool.{Bool, true, false}
 use mathlib.Core.List.{List, [], _++_, append-nil, append-assoc}
-use lib.ListN.{length, drop}
+use lib.ListN.{length, drop, length-append}
 use lib.Seq.{drop-drop}
-use borrow.Author.Tests.{eq-eqb, ne-eqb, le-leb, lt-leb, eqb-true, leb-true}
+use borrow.Author.Tests.{eq-eqb, ne-eqb, le-leb, lt-leb}
 use Rattle.lane.specs.declared.Settings.{Settings}
-use Rattle.lane.specs.Words.{pick}
-use Rattle.lane.specs.Refusals.{settingsGood}
 use Rattle.lane.proofs.Cases.{pick-true, pick-false}
 use Rattle.runner.specs.declared.Found.{Found}
-use Rattle.runner.specs.Checks.{countOf, found, lengthsFirst, scanned, listAnswer}
+use Rattle.runner.specs.Checks.{countOf, listAnswer}
+use Rattle.runner.proofs.Accepted.{listed, given-short}
 use Rattle.listing.specs.Forms.{render, spell, bytes, literal}
-use Rattle.listing.specs.Places.{formOf, widest, widestItem, Grown, Renders}
+use Rattle.listing.specs.PrivatePlaces.{formOf, widest, widestItem, Grown, Renders}
 use Rattle.listing.specs.Listing.{header, line, lines, listing, headerOf, refuseWrite, acceptedWriting, writeList}
 use Rattle.listing.proofs.Readers.{line-numbers}
 use Rattle.listing.proofs.Rooms.{grown-none, grown-more}
-use Rattle.listing.proofs.Trips.{render-append}
+use Rattle.listing.proofs.Trips.{render-append, widest-append}
+use Rattle.listing.proofs.Walks.{render-widest}
 
 pub line-widest : widest line ≡ 45
 unfolding widest widestItem line bytes spell literal
@@ -97,32 +96,29 @@ pub listing-grows : (s : Settings) (list before page after : List ℕ) (at r : �
 unfolding listing
 listing-grows s list before page after at r g h = grown-more 0 at before page _ g r after _ h
 
--- ---- a list that is not refused
-
-kept-if : (b : Bool) (x : Found) (n : ℕ) → pick b x (found (suc n) 0) .answer ≡ 0 → (b ≡ true) × (x .answer ≡ 0)
-unfolding pick
-kept-if true x n e = (refl, e)
-kept-if false x n e = absurd (no e)
-  where
-    no : suc n ≡ 0 → ⊥
-    no z = omega arith
-
-pub record Accepted (s : Settings) (list : List ℕ) : Type 0 where
-  pub ranged : settingsGood s ≡ true
-  pub sixes : length list % 6 ≡ 0
-  pub few : countOf list ≤ 1024
-  pub scans : scanned list .answer ≡ 0
-
-pub accepted : (s : Settings) (list : List ℕ) → listAnswer s list .answer ≡ 0 → Accepted s list
-unfolding listAnswer lengthsFirst
-accepted s list e =
-    let a = kept-if _ _ 2 e in
-    let b = kept-if _ _ 3 (a .1) in
-    let c = kept-if _ _ 4 (b .1) in
-    record { ranged = a .0; sixes = eqb-true _ _ (b .0); few = leb-true _ _ (c .0); scans = c .1 }
+-- ---- sizes
 
 pub few-words : (s : Settings) (list : List ℕ) → listAnswer s list .answer ≡ 0 → length list ≤ 6144
-few-words s list e = let a = accepted s list e in omega (arith, a .sixes, a .few)
+few-words s list e = given-short s list (listed s list e .checked)
+
+lines-widest : (n : ℕ) → widest (lines n) ≡ 45 * n
+unfolding lines widest
+lines-widest zero = refl
+lines-widest (suc n) = widest-append line (lines n) ∙ omega (arith, line-widest, lines-widest n)
+
+pub listing-short : (s : Settings) (list : List ℕ) → countOf list ≤ 1024 → length (listing s list) ≤ 65536
+unfolding listing
+listing-short s list h =
+    let a = render header (headerOf s (countOf list)) in
+    let b = render (lines (countOf list)) list in
+    omega (
+      arith,
+      length-append a b,
+      render-widest header (headerOf s (countOf list)),
+      header-widest,
+      render-widest (lines (countOf list)) list,
+      lines-widest (countOf list),
+    )
 
 -- ---- what a return says
 

@@ -1,9 +1,8 @@
--- What a reader of crate `listing` has to believe: document 01's listings and the program's report. Nothing here is proved; proofs/ has the
--- laws.
+-- What a reader of crate `listing` has to believe: document 01's listings and the program's report. Nothing here is proved.
 pub mod Forms
-pub mod Places
 pub mod Listing
 pub mod Report
 pub mod Program
-pub mod Lines
-pub mod Held
+-- The vocabulary of private functions, which no promise rests on: pass over it.
+pub mod PrivatePlaces
+pub mod PrivateReader

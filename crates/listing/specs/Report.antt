@@ -1,11 +1,13 @@
 -- Document 01, "Listings": what the program prints.
 use Prim.Native.Nat.{ℕ, zero, suc, _+_, _/_, _%_, _^_}
+use mathlib.Core.Path.{_≡_}
 use mathlib.Core.List.{List, [], _∷_, _++_}
 use lib.ListN.{getD, length}
 use lib.Dec.{ltb, leb, eqb}
 use Rattle.lane.specs.Words.{pick}
+use Rattle.listing.specs.declared.Reporting.{Reporting}
 use Rattle.listing.specs.Forms.{Form, lit, dec, hex, text, LF, render}
-use Rattle.listing.specs.Listing.{numberLine}
+use Rattle.listing.specs.Listing.{numberLine, inFront}
 
 -- "answer has no leading zeros": how many of at most k digits a number takes, ten being enough for 32 bits; 0 takes one.
 unfoldable pub widthIn : ℕ → ℕ → ℕ
@@ -41,11 +43,29 @@ unfoldable pub changes : List ℕ → List ℕ → ℕ → List ℕ
 changes before after zero = []
 changes before after (suc n) = changes before after n ++ changeLine before after n
 
+-- A report: the number that stands in it, and its bytes.
+pub record Printed : Type 0 where
+  pub answer : ℕ
+  pub bytes : List ℕ
+
 -- The whole report: registers only where all was done. Twelve registers are 384 words.
-unfoldable pub report : ℕ → ℕ → ℕ → ℕ → List ℕ → List ℕ → List ℕ
+unfoldable pub report : ℕ → ℕ → ℕ → ℕ → List ℕ → List ℕ → Printed
 report answer steps place cursor before after =
-    outcomeLines answer steps place cursor ++ pick (eqb answer 0) (changes before after 384) []
+    record {
+      answer = answer;
+      bytes = outcomeLines answer steps place cursor ++ pick (eqb answer 0) (changes before after 384) [];
+    }
 
 -- What is put in front of lent room: nothing, where the room is too short.
 unfoldable pub reported : ℕ → List ℕ → List ℕ
 reported room bs = pick (leb (length bs) room) bs []
+
+-- What is returned: the report's number and its length, or 11, "lent room too short", and 0.
+unfoldable pub reporting : ℕ → Printed → Reporting
+reporting room p =
+    pick (leb (length (p .bytes)) room) (record { answer = p .answer; length = length (p .bytes) }) (record { answer = 11; length = 0 })
+
+-- A report was asked for in lent room: what is returned, and the room afterwards.
+pub record Reports (p : Printed) (before after : List ℕ) (r : Reporting) : Type 0 where
+  pub told : r ≡ reporting (length before) p
+  pub put : after ≡ inFront (reported (length before) (p .bytes)) before

@@ -2,15 +2,14 @@
 //
 // A form is a byte string: a byte below 10 stands for that many decimal digits, 14 for an op name, 16 to 24 for up to eight hexadecimal
 // digits, any other for itself.
-use crate::Cursor;
 use crate::Got;
-use crate::hold::read_item;
+use crate::Scanned;
 ghost use mathlib.Core.Path.{_≡_};
 ghost use mathlib.Core.List.{[], _∷_, _++_};
 ghost use Prim.Native.Nat.{_+_, _-_, _^_, _<_, _≤_};
 ghost use lib.ListN.{length, getD, take, drop};
 ghost use Rattle.listing.specs.Forms as Forms;
-ghost use Rattle.listing.specs.Places as Places;
+ghost use Rattle.listing.specs.PrivatePlaces as Places;
 
 // The op names, by op from 0, which has none; each ends with its first space.
 const NAMES: [u8; 112] =
@@ -185,43 +184,41 @@ pub(crate) fn item(text: &[u8], at: usize, x: u8) -> Got
     byte(text, at, x)
 }
 
-// A form, from a position and the line `first` on, item by item through the reader: its numbers go into `out` from `place` on.
-pub(crate) fn scan(
-    text: &[u8],
-    from: usize,
-    first: u32,
-    form: &[u8],
-    out: &mut [u32],
-    place: usize,
-) -> Cursor
-    requires { ⌜ (from ≤ length (now text)) × (place + Places.numbers (Places.formOf (now form)) < length (now out)) × (first + length (now form) < 2 ^ 32) ⌝ }
-    ensures { λ r. ⌜ Places.Scans (Forms.scan (Places.formOf (now (form .entry))) (drop from (now (text .entry)))) (now (text .entry)) place first (length (now (form .entry))) (now (out .entry)) (now (out .exit)) r ⌝ }
+// A form, from a position and the line `first` on. A byte 10 of it ends a line. `numbers` has a place to spare, since a store is made for an
+// item without a number too.
+pub(crate) fn scan(text: &[u8], from: usize, first: u32, form: &[u8]) -> Scanned
+    requires { ⌜ (from ≤ length (now text)) × (Places.numbers (Places.formOf (now form)) < 10) × (length (now form) ≤ 100) ⌝ }
+    ensures { λ r. ⌜ Places.Finds (Forms.scan (Places.formOf (now (form .entry))) (drop from (now (text .entry)))) (now (text .entry)) first r ⌝ }
 {
+    let mut numbers: [u32; 10] = [0; 10];
     let mut f: usize = 0;
     let mut at = from;
-    let mut n = place;
-    let mut line = first;
+    let mut line = first as usize;
+    let mut n: usize = 0;
     while f < form.len() {
-        let step = read_item(text, at, line, form[f]);
-        if !step.good {
-            return Cursor {
+        let x = form[f];
+        let got = item(text, at, x);
+        if !got.good {
+            return Scanned {
                 good: false,
                 at,
                 line,
                 n,
+                numbers,
             };
         }
-        out[n] = step.value;
-        n += step.count;
-        at = step.at;
-        line = step.line as u32;
+        numbers[n] = got.value;
+        n += got.count;
+        at = got.at;
+        line += (x == 10) as usize;
         f += 1;
     }
-    Cursor {
+    Scanned {
         good: true,
         at,
         line,
         n,
+        numbers,
     }
 }
 

@@ -1,9 +1,17 @@
-// One reader that keeps hold of the lent text and its line number: a struct with the text, a position and a line, and thin functions over
-// it. The work is `step_at`'s, and callers use `read_item`: the parameters of both are plain.
-use crate::Step;
-use crate::forms::item;
+// One reader that keeps hold of the lent text and its line number: a struct with the text, a position and a line, placed once for a line or
+// for the header, and thin functions over it. The work is `scan_at`'s, and callers use `read_form`: the parameters of both are plain.
+use crate::HEADER;
+use crate::LINE;
+use crate::Scanned;
+use crate::forms::scan;
 ghost use mathlib.Core.Path.{_≡_};
-ghost use Rattle.listing.specs.Held as Held;
+ghost use Rattle.listing.specs.PrivateReader as Held;
+
+// The number of the header among the listing's forms.
+pub(crate) const HEADER_FORM: u8 = 0;
+
+// The number of an instruction line.
+pub(crate) const LINE_FORM: u8 = 1;
 
 pub(crate) struct Reader<'a> {
     text: &'a [u8],
@@ -11,36 +19,23 @@ pub(crate) struct Reader<'a> {
     line: u32,
 }
 
-// The work: an item of a form, at a position and a line.
-fn step_at(text: &[u8], at: usize, line: u32, x: u8) -> Step
-    ensures { λ r. ⌜ r ≡ Held.stepAt (now (text .entry)) at line x ⌝ }
+// The work: a form at a position and a line. Past the text there is none.
+fn scan_at(text: &[u8], at: usize, line: u32, form: u8) -> Scanned
+    ensures { λ r. ⌜ Held.FoundAt (now (text .entry)) at line form r ⌝ }
 {
     if text.len() < at {
-        return Step {
+        return Scanned {
             good: false,
-            at,
+            at: text.len(),
             line: line as usize,
-            count: 0,
-            value: 0,
+            n: 0,
+            numbers: [0; 10],
         };
     }
-    let got = item(text, at, x);
-    if got.good {
-        return Step {
-            good: true,
-            at: got.at,
-            line: line as usize + (x == 10) as usize,
-            count: got.count,
-            value: got.value,
-        };
+    if form == HEADER_FORM {
+        return scan(text, at, line, &HEADER);
     }
-    Step {
-        good: false,
-        at,
-        line: line as usize,
-        count: 0,
-        value: 0,
-    }
+    scan(text, at, line, &LINE)
 }
 
 // A reader that stands at a position and a line.
@@ -50,16 +45,16 @@ fn placed<'a>(text: &'a [u8], at: usize, line: u32) -> Reader<'a>
     Reader { text, at, line }
 }
 
-// The item that a reader stands at.
-fn next<'a>(r: Reader<'a>, x: u8) -> Step
-    ensures { λ s. ⌜ s ≡ Held.stepAt (now (r .entry .text)) (r .entry .at) (r .entry .line) x ⌝ }
+// The form that a reader stands at.
+fn next<'a>(r: Reader<'a>, form: u8) -> Scanned
+    ensures { λ s. ⌜ Held.FoundAt (now (r .entry .text)) (r .entry .at) (r .entry .line) form s ⌝ }
 {
-    step_at(r.text, r.at, r.line, x)
+    scan_at(r.text, r.at, r.line, form)
 }
 
-// An item of a form, read through the reader.
-pub(crate) fn read_item(text: &[u8], at: usize, line: u32, x: u8) -> Step
-    ensures { λ r. ⌜ r ≡ Held.stepAt (now (text .entry)) at line x ⌝ }
+// A form, read through the reader.
+pub(crate) fn read_form(text: &[u8], at: usize, line: u32, form: u8) -> Scanned
+    ensures { λ r. ⌜ Held.FoundAt (now (text .entry)) at line form r ⌝ }
 {
-    next(placed(text, at, line), x)
+    next(placed(text, at, line), form)
 }

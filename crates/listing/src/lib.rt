@@ -11,7 +11,7 @@ pub mod reader;
 // Settings and list to text.
 pub mod writer;
 // What the program prints.
-pub mod report;
+mod report;
 // A listing in, a report out: the program.
 pub mod program;
 
@@ -34,6 +34,12 @@ pub struct Writing {
     pub length: usize,
 }
 
+// What the program's work returns: the number in the report, and how many bytes of the lent room the report takes.
+pub struct Reporting {
+    pub answer: u32,
+    pub length: usize,
+}
+
 // An item scanned in a text: whether it is there, the position after it, and its number, if it has one.
 struct Got {
     good: bool,
@@ -42,17 +48,19 @@ struct Got {
     value: u32,
 }
 
-// An item read at a position and a line: whether it is there, the position and the line after it, and its number, if it has one.
-struct Step {
+// A form scanned in a text: whether it is there, the position and the line after it or else those of the fault, how many numbers were
+// found, and the numbers.
+struct Scanned {
     good: bool,
     at: usize,
     line: usize,
-    count: usize,
-    value: u32,
+    n: usize,
+    numbers: [u32; 10],
 }
 
-// A form scanned in a text: whether it is there, the position and the line after it, and where the numbers in lent room end.
-struct Cursor {
+// The rest of a text, its instruction lines: whether all are there, the position and the line after them or else those of the fault, and
+// where their words in lent room end.
+struct Rest {
     good: bool,
     at: usize,
     line: u32,

@@ -1,17 +1,18 @@
-// Text to settings and list: a scan into local arrays, and the lent room only after every check.
-use crate::Cursor;
-use crate::HEADER;
-use crate::LINE;
+// Text to settings and list: line by line through the reader into local arrays, and the lent room only after every check.
 use crate::Reading;
+use crate::Rest;
 use crate::forms::copy_words;
-use crate::forms::scan;
+use crate::forms::word_at;
+use crate::hold::HEADER_FORM;
+use crate::hold::LINE_FORM;
+use crate::hold::read_form;
 use lane::Settings;
 use runner::checks::list_answer;
 ghost use mathlib.Core.Path.{_≡_};
 ghost use Prim.Native.Nat.{_+_, _<_, _≤_};
 ghost use lib.ListN.{length, take, drop};
 ghost use Rattle.listing.specs.Forms as Forms;
-ghost use Rattle.listing.specs.Places as Places;
+ghost use Rattle.listing.specs.PrivatePlaces as Places;
 ghost use Rattle.listing.specs.Listing as Listing;
 
 // A refusal.
@@ -37,24 +38,37 @@ fn refused(answer: u32, place: u32, cursor: u32) -> Reading
     }
 }
 
-// The settings among the header's numbers.
-fn settings_of(head: &[u32; 10]) -> Settings
-    ensures { λ r. ⌜ r ≡ Listing.settingsOf (now (head .entry)) ⌝ }
+// Settings, from words in the listing's order; a word that is lacking counts as 0.
+pub fn settings_of(words: &[u32]) -> Settings
+    ensures { λ r. ⌜ r ≡ Listing.settingsOf (now (words .entry)) ⌝ }
 {
     Settings {
-        edition: head[0],
-        srcb: head[1],
-        offset: head[2],
-        cursor: head[3],
-        stride0: head[4],
-        stride1: head[5],
-        stride2: head[6],
-        stride3: head[7],
+        edition: word_at(words, 0),
+        srcb: word_at(words, 1),
+        offset: word_at(words, 2),
+        cursor: word_at(words, 3),
+        stride0: word_at(words, 4),
+        stride1: word_at(words, 5),
+        stride2: word_at(words, 6),
+        stride3: word_at(words, 7),
     }
 }
 
+// The first `count` of a line's numbers, into lent room from `place` on; where they end.
+fn put_words(words: &mut [u32], place: usize, count: usize, numbers: &[u32]) -> usize
+    requires { ⌜ (count ≤ length (now numbers)) × (place + count ≤ length (now words)) ⌝ }
+    ensures { λ r. ⌜ Places.Grown place r (now (words .entry)) (now (words .exit)) (take count (now (numbers .entry))) ⌝ }
+{
+    let mut i: usize = 0;
+    while i < count {
+        words[place + i] = numbers[i];
+        i += 1;
+    }
+    place + count
+}
+
 // The instruction lines.
-fn lines(text: &[u8], from: usize, count: u32, words: &mut [u32]) -> Cursor
+fn lines(text: &[u8], from: usize, count: u32, words: &mut [u32]) -> Rest
     requires { ⌜ (from ≤ length (now text)) × (count ≤ 1024) × (6144 < length (now words)) ⌝ }
     ensures { λ r. ⌜ Places.Scans (Forms.scan (Listing.lines count) (drop from (now (text .entry)))) (now (text .entry)) 0 10 2048 (now (words .entry)) (now (words .exit)) r ⌝ }
 {
@@ -62,21 +76,21 @@ fn lines(text: &[u8], from: usize, count: u32, words: &mut [u32]) -> Cursor
     let mut n: usize = 0;
     let mut i: u32 = 0;
     while i < count {
-        let c = scan(text, at, 10 + i, &LINE, words, n);
+        let c = read_form(text, at, 10 + i, LINE_FORM);
         if c.good {
+            n = put_words(words, n, c.n, &c.numbers);
             at = c.at;
-            n = c.n;
             i += 1;
         } else {
-            return Cursor {
+            return Rest {
                 good: false,
                 at: c.at,
-                line: c.line,
-                n: c.n,
+                line: c.line as u32,
+                n,
             };
         }
     }
-    Cursor {
+    Rest {
         good: true,
         at,
         line: 10 + i,
@@ -134,10 +148,9 @@ pub fn read(text: &[u8], list: &mut [u32]) -> Reading
     if 65536 < text.len() {
         return refused(11, 0, 0);
     }
-    let mut head: [u32; 10] = [0; 10];
-    let c = scan(text, 0, 1, &HEADER, &mut head, 0);
+    let c = read_form(text, 0, 1, HEADER_FORM);
     if c.good {
-        return read_rest(text, c.at, &head, list);
+        return read_rest(text, c.at, &c.numbers, list);
     }
-    refused(10, c.line, 0)
+    refused(10, c.line as u32, 0)
 }

@@ -1,4 +1,5 @@
 // What the program prints: the outcome, and the registers whose word changed.
+use crate::Reporting;
 use crate::forms::copy_bytes;
 use crate::forms::put_number;
 use crate::forms::render;
@@ -7,8 +8,7 @@ ghost use mathlib.Core.Path.{_≡_};
 ghost use Prim.Native.Nat.{_+_, _<_, _≤_};
 ghost use lib.ListN.{length};
 ghost use Rattle.listing.specs.Forms as Forms;
-ghost use Rattle.listing.specs.Places as Places;
-ghost use Rattle.listing.specs.Listing as Listing;
+ghost use Rattle.listing.specs.PrivatePlaces as Places;
 ghost use Rattle.listing.specs.Report as Report;
 
 // The report's forms, by the rule of `forms`; the answer's digits stand between the first two.
@@ -103,7 +103,7 @@ fn put_report(
     page: &mut [u8],
 ) -> usize
     requires { ⌜ 11188 ≤ length (now page) ⌝ }
-    ensures { λ r. ⌜ Places.Grown 0 r (now (page .entry)) (now (page .exit)) (Report.report answer steps place cursor (now (before .entry)) (now (after .entry))) ⌝ }
+    ensures { λ r. ⌜ Places.Grown 0 r (now (page .entry)) (now (page .exit)) (Report.report answer steps place cursor (now (before .entry)) (now (after .entry)) .bytes) ⌝ }
 {
     let at = put_outcome(answer, steps, place, cursor, page);
     if answer == 0 {
@@ -112,8 +112,8 @@ fn put_report(
     at
 }
 
-// The report of an outcome and the images before and after, in front of the lent room; its length, 0 where the room is too short.
-pub fn report(
+// The report of an outcome and the images before and after, in front of the lent room.
+pub(crate) fn report(
     answer: u32,
     steps: u32,
     place: u32,
@@ -121,14 +121,17 @@ pub fn report(
     before: &[u32],
     after: &[u32],
     text: &mut [u8],
-) -> usize
-    ensures { λ r. ⌜ (r ≡ length (Report.reported (length (now (text .entry))) (Report.report answer steps place cursor (now (before .entry)) (now (after .entry))))) × (now (text .exit) ≡ Listing.inFront (Report.reported (length (now (text .entry))) (Report.report answer steps place cursor (now (before .entry)) (now (after .entry)))) (now (text .entry))) ⌝ }
+) -> Reporting
+    ensures { λ r. ⌜ Report.Reports (Report.report answer steps place cursor (now (before .entry)) (now (after .entry))) (now (text .entry)) (now (text .exit)) r ⌝ }
 {
     let mut page: [u8; 11188] = [0; 11188];
     let n = put_report(answer, steps, place, cursor, before, after, &mut page);
     if text.len() < n {
-        return 0;
+        return Reporting {
+            answer: 11,
+            length: 0,
+        };
     }
     copy_bytes(&page, n, text);
-    n
+    Reporting { answer, length: n }
 }

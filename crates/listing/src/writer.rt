@@ -11,7 +11,7 @@ ghost use Prim.Native.Nat.{_+_, _<_, _≤_};
 ghost use lib.ListN.{length};
 ghost use Rattle.runner.specs.Checks.{countOf};
 ghost use Rattle.listing.specs.Forms as Forms;
-ghost use Rattle.listing.specs.Places as Places;
+ghost use Rattle.listing.specs.PrivatePlaces as Places;
 ghost use Rattle.listing.specs.Listing as Listing;
 
 // A refusal.

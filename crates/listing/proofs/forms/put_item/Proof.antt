@@ -3,7 +3,7 @@ use native.Mathlib.Omega.{arith}
 use Rattle.listing.proofs.Items.{item-dec, item-name, item-low, item-hex, item-high}
 use Rattle.listing.proofs.forms.put_item.Statement.{statement}
 use Rattle.listing.specs.Forms.{renderItem}
-use Rattle.listing.specs.Places.{widestItem}
+use Rattle.listing.specs.PrivatePlaces.{widestItem}
 use Rattle.listing.proofs.forms.put_item.Tie as tie
 
 put-number-requires : tie.Need-put-number-requires

@@ -5,10 +5,10 @@ use mathlib.Core.Path.{refl, sym, _≡_}
 use native.Mathlib.Nat.{add-zero}
 use native.Mathlib.Omega.{arith}
 use Rattle.listing.proofs.Names.{cell-at, length-at, length-name}
-use Rattle.listing.proofs.Rooms.{name-whole, name-grows, grown-none}
+use Rattle.listing.proofs.Rooms.{name-whole, list-grows, grown-none}
 use Rattle.listing.proofs.forms.put_name.Statement.{statement}
 use Rattle.listing.specs.Forms.{spell, bytes, nameOf}
-use Rattle.listing.specs.Places.{Grown}
+use Rattle.listing.specs.PrivatePlaces.{Grown}
 use Rattle.listing.proofs.forms.put_name.Tie as tie
 
 abbrev Inv-loop : tie.InvT-loop
@@ -53,7 +53,7 @@ unfolding bytes spell
 loop-again c = (
   omega arith,
   c .before .loop .inv .1,
-  name-grows (c .before .before .args .op) (c .before .before .args .at) (c .before .loop .i) (c .before .before .args .out .now) (c .before .loop .out) (omega arith) (omega arith) (c .before .loop .inv .2) _ (sym (cell-at (c .before .before .args .op) (c .before .loop .i) (c .before .before .pre .1) (omega arith))),
+  list-grows (nameOf (c .before .before .args .op)) (c .before .before .args .at) (c .before .loop .i) (c .before .before .args .out .now) (c .before .loop .out) (omega arith) (omega arith) (c .before .loop .inv .2) _ (sym (cell-at (c .before .before .args .op) (c .before .loop .i) (c .before .before .pre .1) (omega arith))),
   c .before .loop .inv .3,
   simp length-set (c .before .loop .inv .4),
 )

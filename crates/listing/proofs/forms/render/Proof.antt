@@ -5,7 +5,7 @@ use native.Mathlib.Omega.{arith}
 use Rattle.listing.proofs.Trips.{takes-one}
 use Rattle.listing.proofs.Walks.{rendering-start, room-there, rendering-more, rendering-end, Rendering}
 use Rattle.listing.proofs.forms.render.Statement.{statement}
-use Rattle.listing.specs.Places.{itemOf}
+use Rattle.listing.specs.PrivatePlaces.{itemOf}
 use Rattle.listing.proofs.forms.render.Tie as tie
 
 abbrev Inv-loop : tie.InvT-loop

@@ -50,17 +50,17 @@ slice-aggregate-read-list : tie.Need-slice-aggregate-read-list
 slice-aggregate-read-list c = search needs
 
 read-list-requires : tie.Need-read-list-requires
-read-list-requires c κs = grown-front _ _ _ _ (c .before .before .before .before .before .before .before .lines .ensures .grown) .1
+read-list-requires c κs = grown-front _ _ _ _ (c .before .before .before .before .before .before .before .before .lines .ensures .grown) .1
 
 same-length : tie.Need-same-length
 same-length c = search needs
 
 returns-3 : tie.Need-returns-3
-returns-3 c = let a = c .before .before .before .before .before .before .before .before .before .before .before .before .before .before .before .before .args in let s = c .before .before .before .before .before .before .before .before .before .before .lines .ensures in
-    let q = s .scanned ∙ pick-true _ _ _ (c .before .before .before .before .before .before .before .before .if2 .taken) in
+returns-3 c = let a = c .before .before .before .before .before .before .before .before .before .before .before .before .before .before .before .before .before .args in let s = c .before .before .before .before .before .before .before .before .before .before .before .lines .ensures in
+    let q = s .scanned ∙ pick-true _ _ _ (c .before .before .before .before .before .before .before .before .before .if2 .taken) in
     let g = grown-front _ _ _ _ (s .grown) .0 in
-    let e = read-on (length (a .list .now)) (a .head .now) (drop (a .at) (a .text .now)) (c .before .before .before .before .before .before .before .before .before .before .before .before .if1 .left) (s .ns) (drop (c .before .before .before .before .before .before .before .before .before .before .lines .result .at) (a .text .now)) q
-    (rw (length-drop (c .before .before .before .before .before .before .before .before .before .before .lines .result .at) (a .text .now)) (omega (arith, c .before .before .before .before .before .before .if3 .left))) in
+    let e = read-on (length (a .list .now)) (a .head .now) (drop (a .at) (a .text .now)) (c .before .before .before .before .before .before .before .before .before .before .before .before .before .if1 .left) (s .ns) (drop (c .before .before .before .before .before .before .before .before .before .before .before .lines .result .at) (a .text .now)) q
+    (rw (length-drop (c .before .before .before .before .before .before .before .before .before .before .before .lines .result .at) (a .text .now)) (omega (arith, c .before .before .before .before .before .before .before .if3 .left))) in
     rw (e, ← (c .before .before .before .before .before .settings-of .ensures), ← g) (c .before .before .read-list .ensures)
 
 refused-requires-3 : tie.Need-refused-requires-3

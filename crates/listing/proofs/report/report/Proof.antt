@@ -1,8 +1,8 @@
 use borrow.Author.Needs.{needs}
 use lib.ListN.{length}
-use mathlib.Core.Path.{refl, _∙_, _≡_}
+use mathlib.Core.Path.{_∙_, _≡_}
 use native.Mathlib.Omega.{arith}
-use Rattle.listing.proofs.Reports.{reported-short, reported-whole}
+use Rattle.listing.proofs.Reports.{reports-short, reports-whole}
 use Rattle.listing.proofs.Rooms.{grown-front}
 use Rattle.listing.proofs.report.report.Statement.{statement}
 use Rattle.listing.specs.Report.{report}
@@ -16,8 +16,7 @@ put-report-requires c κs = search needs
 
 returns : tie.Need-returns
 returns c = let a = c .before .before .before .before .before .before .before .args in
-    let e = reported-short (length (a .text .now)) (report (a .answer) (a .steps) (a .place) (a .cursor) (a .before .now) (a .after .now)) (omega (arith, c .before .before .put-report .ensures .upTo)) in
-    (rw e refl, rw e refl)
+    reports-short (report (a .answer) (a .steps) (a .place) (a .cursor) (a .before .now) (a .after .now)) (a .text .now) (omega (arith, c .before .before .put-report .ensures .upTo))
 
 slice-aggregate-copy-bytes : tie.Need-slice-aggregate-copy-bytes
 slice-aggregate-copy-bytes c = search needs
@@ -29,11 +28,11 @@ same-length : tie.Need-same-length
 same-length c = search needs
 
 returns-2 : tie.Need-returns-2
+unfolding report
 returns-2 c = let a = c .before .before .before .before .before .before .before .before .before .before .before .before .args in let g = c .before .before .before .before .before .before .before .put-report .ensures in
-    let bs = report (a .answer) (a .steps) (a .place) (a .cursor) (a .before .now) (a .after .now) in
-    let k : c .before .before .before .before .before .before .before .put-report .result ≡ length bs = omega (arith, g .upTo) in
-    let e = reported-whole (length (a .text .now)) bs (omega arith) in
-    (rw e k, rw e (c .before .before .copy-bytes .ensures ∙ cc (g .front)))
+    let p = report (a .answer) (a .steps) (a .place) (a .cursor) (a .before .now) (a .after .now) in
+    let k : c .before .before .before .before .before .before .before .put-report .result ≡ length (p .bytes) = omega (arith, g .upTo) in
+    reports-whole p (a .text .now) _ _ k (omega arith) (c .before .before .copy-bytes .ensures ∙ cc (g .front))
 
 pub report-spec : {M : Type 1} → statement M
 report-spec =

@@ -5,7 +5,7 @@ use Rattle.listing.proofs.Readers.{header-form}
 use Rattle.listing.proofs.Writers.{header-widest, listing-grows}
 use Rattle.listing.proofs.writer.put_listing.Statement.{statement}
 use Rattle.listing.specs.Forms.{spell, bytes}
-use Rattle.listing.specs.Places.{widest}
+use Rattle.listing.specs.PrivatePlaces.{widest}
 use Rattle.listing.proofs.writer.put_listing.Tie as tie
 
 cast-count : tie.Need-cast-count

@@ -1,4 +1,5 @@
--- How the code says what a scan finds and what a render writes: forms as byte strings, positions in a text, lists that grow in lent room.
+-- Pass over this page with document 01 in the other hand: it is the vocabulary of private functions, and no promise rests on it. It has
+-- how the code says what a scan finds and what a render writes: forms as byte strings, positions in a text, lists that grow in lent room.
 use Prim.Native.Nat.{ℕ, _+_, _-_, _≤_}
 use mathlib.Core.Path.{_≡_}
 use mathlib.Core.List.{List, [], _∷_, _++_, map}
@@ -6,7 +7,8 @@ use lib.ListN.{length, take, drop}
 use lib.Dec.{ltb, leb, eqb}
 use Rattle.lane.specs.Words.{pick}
 use Rattle.listing.specs.declared.Got.{Got}
-use Rattle.listing.specs.declared.Cursor.{Cursor}
+use Rattle.listing.specs.declared.Scanned.{Scanned}
+use Rattle.listing.specs.declared.Rest.{Rest}
 use Rattle.listing.specs.Forms.{Item, lit, dec, hex, name, Form, Scan, taken, faulty, takes}
 
 -- A byte of a form: below 10 that many decimal digits, 14 an op name, 16 to 24 up to eight hexadecimal digits, any other itself.
@@ -42,11 +44,18 @@ pub record Gets (s : Scan) (t : List ℕ) (g : Got) : Type 0 where
   pub scanned : s ≡ pick (g .good) (taken (take (g .count) (g .value ∷ [])) (drop (g .at) t)) (faulty 0)
   pub within : g .at ≤ length t
   pub one : g .count ≤ 1
-  pub idle : g .count ≡ 0 → g .value ≡ 0
 
--- A form was scanned from line `first` on, up to a position and a line; its numbers, or those before its first fault, went into lent room
--- from p on. It has at most `most` lines.
-pub record Scans (s : Scan) (t : List ℕ) (p first most : ℕ) (before after : List ℕ) (r : Cursor) : Type 0 where
+-- A form of at most 100 lines was scanned from line `first` on, up to a position and a line.
+pub record Finds (s : Scan) (t : List ℕ) (first : ℕ) (r : Scanned) : Type 0 where
+  pub scanned : s ≡ pick (r .good) (taken (take (r .n) (r .numbers)) (drop (r .at) t)) (faulty (r .line - first))
+  pub held : r .n ≤ length (r .numbers)
+  pub within : r .at ≤ length t
+  pub onward : first ≤ r .line
+  pub few : r .line ≤ first + 100
+
+-- A form of at most `most` lines was scanned from line `first` on, up to a position and a line; its numbers, or some of those before its
+-- first fault, went into lent room from p on.
+pub record Scans (s : Scan) (t : List ℕ) (p first most : ℕ) (before after : List ℕ) (r : Rest) : Type 0 where
   pub ns : List ℕ
   pub scanned : s ≡ pick (r .good) (taken ns (drop (r .at) t)) (faulty (r .line - first))
   pub grown : Grown p (r .n) before after ns
