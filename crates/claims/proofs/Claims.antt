@@ -1,0 +1,144 @@
+-- Each claim of specs/Claims.antt, proved. Assumes nothing.
+use mathlib.Core.Path.{_≡_, refl, sym, ap, _∙_}
+use Prim.Native.Nat.{ℕ}
+use native.Mathlib.Omega.{arith}
+use mathlib.Core.List.{List}
+use lib.ListN.{length}
+use lib.Dec.{eqb}
+use borrow.Author.Tests.{ne-eqb}
+use Rattle.lane.specs.declared.Settings.{Settings}
+use Rattle.lane.specs.Words.{pick, flagOf, build, laneOf, reg, upd, after, wordsAfter}
+use Rattle.lane.specs.Load.{fp16, bf16, twosComp}
+use Rattle.lane.specs.Swap.{rank, ranksBelow}
+use Rattle.lane.specs.Lut.{byteWord}
+use Rattle.lane.specs.Config.{valueOf, combined, laneConfigAfter, highStore, configStore, configWith, config}
+use Rattle.lane.specs.Compute.{extended, iaddWord, inverted, flagAfter, wordAndFlag, iaddWith, iadd}
+use Rattle.lane.specs.Rule.{lanewise, storesOf}
+use Rattle.lane.specs.Refusals.{pass, settingsGood, fieldsGood, instructionAnswer, laneAnswer, laneStep}
+use Rattle.lane.proofs.Cases.{pick-false}
+use Rattle.runner.specs.declared.Outcome.{Outcome}
+use Rattle.runner.specs.Checks.{runAnswer, listAnswer}
+use Rattle.runner.specs.Run.{Ran}
+use Rattle.listing.specs.Listing.{Read, settingsOf, acceptedReading}
+use Rattle.listing.proofs.Writers.{few-words, write-done}
+use Rattle.claims.specs.Twelve.{same}
+use Rattle.claims.specs.Claims as Claims
+use Rattle.claims.proofs.Isolation.{isolation}
+use Rattle.claims.proofs.Instance as Instance
+use Rattle.claims.proofs.Runs as Runs
+use Rattle.claims.proofs.Cut.{cut-run}
+use Rattle.claims.proofs.Refusals as Refusals
+use Rattle.claims.proofs.Readings.{read-listing, held, held-listing}
+use Rattle.claims.proofs.Faults.{ten-names}
+
+-- ---- columns
+
+pub isolated : Claims.Isolated
+isolated = isolation
+
+pub two-runs : Claims.TwoRuns
+two-runs = Instance.two-runs
+
+-- ---- runs
+
+-- an outcome's answer is that of the checks
+answer-is : (s : Settings) (image dst list : List ℕ) (o : Outcome) (x : List ℕ) → Ran s image dst list o x → o .answer ≡ runAnswer s image dst list .answer
+answer-is s image dst list o x r = ap (λ (z : Outcome). z .answer) (r .outcome-is) ∙ Runs.answered s image dst list
+
+pub refusal-touches-nothing : Claims.RefusalTouchesNothing
+unfolding Claims.RefusalTouchesNothing
+refusal-touches-nothing s image dst list o x r h =
+    let d = Runs.refused s image dst list (λ z. h (answer-is s image dst list o x r ∙ z)) in
+    let e = r .outcome-is ∙ d .0 in (
+      r .image-is ∙ d .1,
+      (
+        ap (λ (z : Outcome). z .answer) e,
+        (ap (λ (z : Outcome). z .place) e, (ap (λ (z : Outcome). z .steps) e, ap (λ (z : Outcome). z .cursor) e)),
+      ),
+    )
+
+pub refused-lane-touches-nothing : Claims.RefusedLaneTouchesNothing
+unfolding Claims.RefusedLaneTouchesNothing laneStep
+refused-lane-touches-nothing s L i own head even odd h =
+    pick-false (eqb (laneAnswer s L i (laneOf own) (laneOf head)) 0) _ own (ne-eqb (laneAnswer s L i (laneOf own) (laneOf head)) 0 h)
+
+pub goes-through-the-list : Claims.GoesThroughTheList
+unfolding Claims.GoesThroughTheList
+goes-through-the-list s image dst list o x r h =
+    let d = Runs.done s image dst list (sym (answer-is s image dst list o x r) ∙ h) in
+    let e = r .outcome-is ∙ d .0 in
+    (ap (λ (z : Outcome). z .steps) e, (ap (λ (z : Outcome). z .place) e, (ap (λ (z : Outcome). z .cursor) e, r .image-is ∙ d .1)))
+
+pub well-formed-stays : Claims.WellFormedStays
+unfolding Claims.WellFormedStays
+well-formed-stays s image dst list o x r w =
+    record {
+      long = ap length (r .image-is) ∙ Runs.stays-long s image dst list (w .long);
+      good = rw (r .image-is) (Runs.stays-good s image dst list (w .good));
+    }
+
+pub can-be-cut : Claims.CanBeCut
+unfolding Claims.CanBeCut
+can-be-cut s image dst a b o p q x middle end six ran h first rest =
+    cut-run s a b image dst six (sym (answer-is s image dst _ o x ran) ∙ h) o p q x middle end ran first rest
+
+-- ---- listings
+
+pub refused-reading-touches-nothing : Claims.RefusedReadingTouchesNothing
+refused-reading-touches-nothing = Refusals.reading-untouched
+
+pub refused-writing-touches-nothing : Claims.RefusedWritingTouchesNothing
+refused-writing-touches-nothing = Refusals.writing-untouched
+
+pub written-then-read : Claims.WrittenThenRead
+unfolding Claims.WrittenThenRead
+written-then-read = read-listing
+
+pub read-then-written : Claims.ReadThenWritten
+unfolding Claims.ReadThenWritten acceptedReading
+read-then-written room t e =
+    let h = held room t e in
+    let s = settingsOf (h .ns) in
+    let q = held-listing room t h in
+    rw (h .reads) (rw (← q) at (write-done (length t) s (h .list) (listAnswer s (h .list)) refl (h .good) (rw (← q) (omega arith))))
+
+pub accepted-exactly-if-writable : Claims.AcceptedExactlyIfWritable
+unfolding Claims.AcceptedExactlyIfWritable acceptedReading
+accepted-exactly-if-writable room t = (
+  λ e. let h = held room t e in (settingsOf (h .ns), (h .list, (h .good, held-listing room t h))),
+  λ l w.
+      let q = read-listing room (w .0) (w .1 .0) (w .1 .1 .0) (omega (arith, few-words (w .0) (w .1 .0) (w .1 .1 .0))) in
+      rw (w .1 .1 .1) (ap (λ (r : Read). r .reading .answer) q),
+)
+
+pub ten-names-the-line : Claims.TenNamesTheLine
+unfolding Claims.TenNamesTheLine
+ten-names-the-line = ten-names
+
+-- ---- outcomes
+
+pub runs-coincide : Claims.RunsCoincide
+unfolding Claims.RunsCoincide
+runs-coincide s image dst list o p x y r q = (r .outcome-is ∙ sym (q .outcome-is), r .image-is ∙ sym (q .image-is))
+
+pub lanes-coincide : Claims.LanesCoincide
+unfolding Claims.LanesCoincide
+lanes-coincide s L i own head even odd r q a b = a ∙ sym b
+
+pub readings-coincide : Claims.ReadingsCoincide
+unfolding Claims.ReadingsCoincide
+readings-coincide t before x y r q a b = (a .0 ∙ sym (b .0), a .1 ∙ sym (b .1))
+
+pub writings-coincide : Claims.WritingsCoincide
+unfolding Claims.WritingsCoincide
+writings-coincide s list before x y w v a b = (a .0 ∙ sym (b .0), a .1 ∙ sym (b .1))
+
+pub reports-coincide : Claims.ReportsCoincide
+unfolding Claims.ReportsCoincide
+reports-coincide t before x y r q a b = (a .told ∙ sym (b .told), a .put ∙ sym (b .put))
+
+-- ---- the twelve, by computing each entry of the table
+
+pub twelve-hold : Claims.TwelveHold
+unfolding Claims.TwelveHold pick flagOf build reg upd after wordsAfter fp16 bf16 twosComp rank ranksBelow byteWord valueOf combined laneConfigAfter highStore configStore configWith config extended iaddWord inverted flagAfter wordAndFlag iaddWith iadd lanewise storesOf pass settingsGood fieldsGood instructionAnswer laneAnswer laneStep same
+twelve-hold = tt

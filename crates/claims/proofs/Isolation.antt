@@ -1,0 +1,124 @@
+-- Demand 3. No operation is looked at: a lane's rule is handed its own words, row 0's words of its column and its two cells, so equal ones give
+-- equal lanes. Assumes nothing.
+use mathlib.Core.Path.{_≡_, refl, sym, ap, _∙_}
+use Prim.Native.Nat.{ℕ, zero, suc, _+_, _*_, _/_, _%_, _<_}
+use native.Mathlib.Omega.{arith}
+use mathlib.Core.Bool.{Bool, true, false}
+use mathlib.Core.List.{List}
+use lib.ListN.{length}
+use lib.Dec.{eqb}
+use Rattle.lane.specs.declared.Settings.{Settings}
+use Rattle.lane.specs.declared.Insn.{Insn}
+use Rattle.lane.specs.Words.{pick, Lane}
+use Rattle.lane.specs.Load.{address}
+use Rattle.lane.proofs.Depends.{same-lane}
+use Rattle.runner.specs.declared.Found.{Found}
+use Rattle.runner.specs.declared.Outcome.{Outcome}
+use Rattle.runner.specs.Image.{laneIn}
+use Rattle.runner.specs.Checks.{insnAt, countOf, runAnswer}
+use Rattle.runner.specs.Run.{Machine, evenCell, oddCell, laneAfter, imageAt, imageAfter, cursorAfter, stepped, steps, finish, outcomeOf, runImage}
+use Rattle.runner.proofs.Lanes.{lane-of-lanes, equal-lanes}
+use Rattle.runner.proofs.Accepted.{run-listed}
+use Rattle.runner.proofs.Steps.{begin, steps-dst}
+use Rattle.claims.proofs.Kept.{length-steps}
+use Rattle.claims.specs.Claims.{WellFormedImage, SameColumn, SameCells, Isolated}
+
+-- ---- one lane of the column, over one instruction
+
+module _ (c : ℕ) (a b d e : List ℕ) (la : length a ≡ 768) (lb : length b ≡ 768) (h : SameColumn c a b) (k : SameCells c d e) where
+  column-lane : (L : ℕ) → L < 32 → L % 8 ≡ c → laneIn a L ≡ laneIn b L
+  unfolding SameColumn
+  column-lane L l q = equal-lanes a b L L la lb (λ s m. h L s l q m)
+
+  column-head : (L : ℕ) → L < 32 → L % 8 ≡ c → laneIn a (L % 8) ≡ laneIn b (L % 8)
+  column-head L l q = column-lane (L % 8) (omega arith) (omega arith)
+
+  even-cell : (x L : ℕ) → x < 1024 → L < 32 → L % 8 ≡ c → evenCell d x L ≡ evenCell e x L
+  unfolding SameCells
+  even-cell x L r l q = k ((x / 4 * 4 + L / 8) * 16 + 2 * (L % 8)) (omega arith) (omega arith)
+
+  odd-cell : (x L : ℕ) → x < 1024 → L < 32 → L % 8 ≡ c → oddCell d x L ≡ oddCell e x L
+  unfolding SameCells
+  odd-cell x L r l q = k ((x / 4 * 4 + L / 8) * 16 + (2 * (L % 8) + 1)) (omega arith) (omega arith)
+
+  lane-isolated : (s : Settings) (i : Insn) (x L : ℕ) → x < 1024 → L < 32 → L % 8 ≡ c → laneAfter s i x a d L ≡ laneAfter s i x b e L
+  unfolding laneAfter
+  lane-isolated s i x L r l q =
+      same-lane (i .op) s x i L (laneIn a (L % 8)) (laneIn b (L % 8)) (evenCell d x L) (evenCell e x L) (oddCell d x L) (oddCell e x L)
+      (laneIn a L) (laneIn b L) (column-head L l q) (even-cell x L r l q) (odd-cell x L r l q) (column-lane L l q)
+
+  step-isolated : (s : Settings) (i : Insn) (cursor : ℕ) → SameColumn c (imageAfter s i cursor a d) (imageAfter s i cursor b e)
+  unfolding SameColumn imageAfter imageAt
+  step-isolated s i cursor L t l q m =
+      lane-of-lanes (laneAfter s i (address (i .imm) (s .offset) cursor) a d) L t l m
+      ∙ ap (λ (f : Lane). f t) (lane-isolated s i (address (i .imm) (s .offset) cursor) L (omega arith) l q)
+      ∙ sym (lane-of-lanes (laneAfter s i (address (i .imm) (s .offset) cursor) b e) L t l m)
+
+-- ---- any number of instructions
+
+-- the cursor is the list's and the settings' alone
+cursor-same : (s : Settings) (list a b d e : List ℕ) (n : ℕ) → steps s list n (begin s a d) .cursor ≡ steps s list n (begin s b e) .cursor
+unfolding steps stepped
+cursor-same s list a b d e zero = refl
+cursor-same s list a b d e (suc n) = ap (λ (x : ℕ). cursorAfter s (insnAt list n) x) (cursor-same s list a b d e n)
+
+steps-isolated : (c : ℕ) (s : Settings) (list a b d e : List ℕ) → length a ≡ 768 → length b ≡ 768 → SameColumn c a b → SameCells c d e
+    → (n : ℕ) → SameColumn c (steps s list n (begin s a d) .image) (steps s list n (begin s b e) .image)
+unfolding steps stepped
+steps-isolated c s list a b d e la lb h k zero = h
+steps-isolated c s list a b d e la lb h k (suc n) =
+    moved (steps-isolated c s list a b d e la lb h k n)
+  where
+    A : Machine
+    A = steps s list n (begin s a d)
+
+    B : Machine
+    B = steps s list n (begin s b e)
+
+    moved : SameColumn c (A .image) (B .image)
+        → SameColumn c (imageAfter s (insnAt list n) (A .cursor) (A .image) (A .dst)) (imageAfter s (insnAt list n) (B .cursor) (B .image) (B .dst))
+    moved j =
+        rw (steps-dst s list n (begin s a d), steps-dst s list n (begin s b e), cursor-same s list a b d e n)
+        (step-isolated c (A .image) (B .image) d e (length-steps s list n (begin s a d) la) (length-steps s list n (begin s b e) lb) j k s (insnAt list n) (B .cursor))
+
+-- ---- the checks see nothing of the images' words
+
+answers-same : (s : Settings) (list a b d e : List ℕ) → WellFormedImage a → WellFormedImage b → length d ≡ 16384 → length e ≡ 16384
+    → runAnswer s a d list ≡ runAnswer s b e list
+answers-same s list a b d e wa wb ld le = run-listed s a d list (wa .long) ld (wa .good) ∙ sym (run-listed s b e list (wb .long) le (wb .good))
+
+-- ---- the theorem
+
+outcomes-same : (s : Settings) (list a b d e : List ℕ) → WellFormedImage a → WellFormedImage b → length d ≡ 16384 → length e ≡ 16384
+    → outcomeOf s a d list ≡ outcomeOf s b e list
+unfolding outcomeOf
+outcomes-same s list a b d e wa wb ld le =
+    ap (λ (f : Found). pick (eqb (f .answer) 0) (record { answer = 0; steps = countOf list; place = 0; cursor = finish s a d list .cursor }) (record { answer = f .answer; steps = 0; place = f .place; cursor = s .cursor }))
+    (answers-same s list a b d e wa wb ld le)
+    ∙ ap (λ (x : ℕ). pick {X = Outcome} (eqb (runAnswer s b e list .answer) 0) (record { answer = 0; steps = countOf list; place = 0; cursor = x }) (record { answer = runAnswer s b e list .answer; steps = 0; place = runAnswer s b e list .place; cursor = s .cursor }))
+    (cursor-same s list a b d e (countOf list))
+
+picked : (c : ℕ) (t : Bool) (x y a b : List ℕ) → SameColumn c x y → SameColumn c a b → SameColumn c (pick t x a) (pick t y b)
+unfolding pick
+picked c true x y a b h k = h
+picked c false x y a b h k = k
+
+images-same : (c : ℕ) (s : Settings) (list a b d e : List ℕ) → WellFormedImage a → WellFormedImage b → length d ≡ 16384 → length e ≡ 16384
+    → SameColumn c a b → SameCells c d e → SameColumn c (runImage s a d list) (runImage s b e list)
+unfolding runImage
+images-same c s list a b d e wa wb ld le h k =
+    rw (answers-same s list a b d e wa wb ld le)
+    (picked c (eqb (runAnswer s b e list .answer) 0) (finish s a d list .image) (finish s b e list .image) a b
+    (steps-isolated c s list a b d e (wa .long) (wb .long) h k (countOf list)) h)
+
+-- images that are equal to others agree where those do
+same-through : (c : ℕ) (x y a b : List ℕ) → x ≡ a → y ≡ b → SameColumn c a b → SameColumn c x y
+unfolding SameColumn
+same-through c x y a b p q h L s l r m = ap (λ (z : List ℕ). laneIn z L s) p ∙ h L s l r m ∙ sym (ap (λ (z : List ℕ). laneIn z L s) q)
+
+pub isolation : Isolated
+unfolding Isolated
+isolation c s list a b d e o p x y wa wb ld le h k r q = (
+  r .outcome-is ∙ outcomes-same s list a b d e wa wb ld le ∙ sym (q .outcome-is),
+  same-through c x y (runImage s a d list) (runImage s b e list) (r .image-is) (q .image-is) (images-same c s list a b d e wa wb ld le h k),
+)

@@ -1,0 +1,146 @@
+-- What every run does and leaves, and the steps through a list in two parts. Assumes nothing.
+use mathlib.Core.Path.{_≡_, refl, sym, ap, _∙_}
+use Prim.Native.Nat.{ℕ, zero, suc, _+_, _*_, _/_, _%_, _<_, _≤_}
+use native.Mathlib.Nat.{add-suc, add-zero}
+use native.Mathlib.Omega.{arith}
+use mathlib.Core.Bool.{Bool, true, false}
+use mathlib.Core.List.{List, _++_}
+use lib.ListN.{length, getD, length-append, List·getD-append}
+use lib.Seq.{getD-append-add}
+use lib.Dec.{eqb}
+use borrow.Author.Tests.{eq-eqb, ne-eqb, eqb-true}
+use Rattle.lane.specs.declared.Settings.{Settings}
+use Rattle.lane.specs.declared.Insn.{Insn}
+use Rattle.lane.specs.Words.{pick}
+use Rattle.lane.specs.Load.{stride}
+use Rattle.lane.specs.Rule.{storesOf}
+use Rattle.lane.proofs.Cases.{pick-true, pick-false}
+use Rattle.runner.specs.declared.Outcome.{Outcome}
+use Rattle.runner.specs.Image.{imageGood}
+use Rattle.runner.specs.Checks.{insnAt, countOf, runAnswer}
+use Rattle.runner.specs.Run.{Machine, laneAfter, imageAt, imageAfter, stepped, steps, finish, outcomeOf, runImage}
+use Rattle.runner.proofs.Steps.{begin, steps-dst}
+use Rattle.claims.specs.Claims.{withCursor}
+use Rattle.claims.proofs.Kept.{good-steps, length-steps}
+
+module _ (s : Settings) (image dst list : List ℕ) where
+  -- refused
+  pub refused : (runAnswer s image dst list .answer ≡ 0 → ⊥)
+      → (outcomeOf s image dst list ≡ record { answer = runAnswer s image dst list .answer; steps = 0; place = runAnswer s image dst list .place; cursor = s .cursor })
+      × (runImage s image dst list ≡ image)
+  unfolding outcomeOf runImage
+  refused h = (
+    pick-false (eqb (runAnswer s image dst list .answer) 0) _ _ (ne-eqb (runAnswer s image dst list .answer) 0 h),
+    pick-false (eqb (runAnswer s image dst list .answer) 0) (finish s image dst list .image) image (ne-eqb (runAnswer s image dst list .answer) 0 h),
+  )
+
+  -- done
+  pub done : runAnswer s image dst list .answer ≡ 0
+      → (outcomeOf s image dst list ≡ record { answer = 0; steps = countOf list; place = 0; cursor = finish s image dst list .cursor })
+      × (runImage s image dst list ≡ finish s image dst list .image)
+  unfolding outcomeOf runImage
+  done h = (
+    pick-true (eqb (runAnswer s image dst list .answer) 0) _ _ (eq-eqb (runAnswer s image dst list .answer) 0 h),
+    pick-true (eqb (runAnswer s image dst list .answer) 0) (finish s image dst list .image) image (eq-eqb (runAnswer s image dst list .answer) 0 h),
+  )
+
+  -- an outcome's answer is the checks'
+  pub answered : outcomeOf s image dst list .answer ≡ runAnswer s image dst list .answer
+  unfolding outcomeOf pick
+  answered = go (eqb (runAnswer s image dst list .answer) 0) refl
+    where
+      go : (t : Bool) → eqb (runAnswer s image dst list .answer) 0 ≡ t
+          → pick {X = Outcome} t (record { answer = 0; steps = countOf list; place = 0; cursor = finish s image dst list .cursor })
+          (record { answer = runAnswer s image dst list .answer; steps = 0; place = runAnswer s image dst list .place; cursor = s .cursor }) .answer ≡ runAnswer s image dst list .answer
+      go true e = sym (eqb-true (runAnswer s image dst list .answer) 0 e)
+      go false e = refl
+
+  -- well formed afterwards
+  pub stays-good : imageGood image ≡ true → imageGood (runImage s image dst list) ≡ true
+  unfolding runImage
+  stays-good h = go (eqb (runAnswer s image dst list .answer) 0)
+    where
+      go : (t : Bool) → imageGood (pick t (finish s image dst list .image) image) ≡ true
+      go true = ap imageGood (pick-true true (finish s image dst list .image) image refl) ∙ good-steps s list (countOf list) (begin s image dst) h
+      go false = ap imageGood (pick-false false (finish s image dst list .image) image refl) ∙ h
+
+  pub stays-long : length image ≡ 768 → length (runImage s image dst list) ≡ 768
+  unfolding runImage
+  stays-long h = go (eqb (runAnswer s image dst list .answer) 0)
+    where
+      go : (t : Bool) → length (pick t (finish s image dst list .image) image) ≡ 768
+      go true = ap length (pick-true true (finish s image dst list .image) image refl) ∙ length-steps s list (countOf list) (begin s image dst) h
+      go false = ap length (pick-false false (finish s image dst list .image) image refl) ∙ h
+
+-- ---- a run can be cut
+
+-- a step reads the machine's cursor and not the settings'
+step-cursor : (k : ℕ) (s : Settings) (i : Insn) (m : Machine) → stepped (withCursor k s) i m ≡ stepped s i m
+unfolding stepped imageAfter imageAt laneAfter storesOf stride withCursor
+step-cursor k s i m = refl
+
+steps-cursor : (k : ℕ) (s : Settings) (list : List ℕ) (n : ℕ) (m : Machine) → steps (withCursor k s) list n m ≡ steps s list n m
+unfolding steps
+steps-cursor k s list zero m = refl
+steps-cursor k s list (suc n) m =
+    ap (λ (x : Machine). stepped (withCursor k s) (insnAt list n) x) (steps-cursor k s list n m) ∙ step-cursor k s (insnAt list n) (steps s list n m)
+
+-- the instructions of a joined list
+pub insn-first : (a b : List ℕ) (k : ℕ) → 6 * k + 5 < length a → insnAt (a ++ b) k ≡ insnAt a k
+unfolding insnAt
+insn-first a b k h =
+    λ i.
+    record {
+      op = List·getD-append a b 0 (6 * k) (omega arith) i;
+      imm = List·getD-append a b 0 (6 * k + 1) (omega arith) i;
+      vb = List·getD-append a b 0 (6 * k + 2) (omega arith) i;
+      vc = List·getD-append a b 0 (6 * k + 3) (omega arith) i;
+      vd = List·getD-append a b 0 (6 * k + 4) (omega arith) i;
+      md = List·getD-append a b 0 (6 * k + 5) (omega arith) i;
+    }
+
+word-second : (a b : List ℕ) (j k : ℕ) → k ≡ length a + j → getD (a ++ b) k 0 ≡ getD b j 0
+word-second a b j k e = ap (λ (x : ℕ). getD (a ++ b) x 0) e ∙ getD-append-add a b j 0
+
+pub insn-second : (a b : List ℕ) (k : ℕ) → length a % 6 ≡ 0 → insnAt (a ++ b) (length a / 6 + k) ≡ insnAt b k
+unfolding insnAt
+insn-second a b k h =
+    λ i.
+    record {
+      op = word-second a b (6 * k) (6 * (length a / 6 + k)) (omega arith) i;
+      imm = word-second a b (6 * k + 1) (6 * (length a / 6 + k) + 1) (omega arith) i;
+      vb = word-second a b (6 * k + 2) (6 * (length a / 6 + k) + 2) (omega arith) i;
+      vc = word-second a b (6 * k + 3) (6 * (length a / 6 + k) + 3) (omega arith) i;
+      vd = word-second a b (6 * k + 4) (6 * (length a / 6 + k) + 4) (omega arith) i;
+      md = word-second a b (6 * k + 5) (6 * (length a / 6 + k) + 5) (omega arith) i;
+    }
+
+steps-first : (s : Settings) (a b : List ℕ) (n : ℕ) (m : Machine) → 6 * n ≤ length a → steps s (a ++ b) n m ≡ steps s a n m
+unfolding steps
+steps-first s a b zero m h = refl
+steps-first s a b (suc n) m h =
+    ap (λ (x : Machine). stepped s (insnAt (a ++ b) n) x) (steps-first s a b n m (omega arith))
+    ∙ ap (λ (x : Insn). stepped s x (steps s a n m)) (insn-first a b n (omega arith))
+
+steps-second : (s : Settings) (a b : List ℕ) (n : ℕ) (m : Machine) → length a % 6 ≡ 0 → steps s (a ++ b) (length a / 6 + n) m ≡ steps s b n (steps s a (length a / 6) m)
+unfolding steps
+steps-second s a b zero m h =
+    ap (λ (k : ℕ). steps s (a ++ b) k m) (add-zero (length a / 6)) ∙ steps-first s a b (length a / 6) m (omega arith)
+steps-second s a b (suc n) m h =
+    ap (λ (k : ℕ). steps s (a ++ b) k m) (add-suc (length a / 6) n)
+    ∙ ap (λ (x : Machine). stepped s (insnAt (a ++ b) (length a / 6 + n)) x) (steps-second s a b n m h)
+    ∙ ap (λ (x : Insn). stepped s x (steps s b n (steps s a (length a / 6) m))) (insn-second a b n h)
+
+-- the machine that a list leads to is the one that its first part leads to, taken on by the rest from the image and the cursor reached
+pub cut : (s : Settings) (a b image dst : List ℕ) → length a % 6 ≡ 0
+    → finish s image dst (a ++ b) ≡ finish (withCursor (finish s image dst a .cursor) s) (finish s image dst a .image) dst b
+unfolding withCursor
+cut s a b image dst h =
+    ap (λ (k : ℕ). steps s (a ++ b) k (begin s image dst)) (joined a b h)
+    ∙ steps-second s a b (countOf b) (begin s image dst) h
+    ∙ ap (λ (d : List ℕ). steps s b (countOf b) (record { image = finish s image dst a .image; dst = d; cursor = finish s image dst a .cursor }))
+    (steps-dst s a (countOf a) (begin s image dst))
+    ∙ sym (steps-cursor (finish s image dst a .cursor) s b (countOf b) (begin (withCursor (finish s image dst a .cursor) s) (finish s image dst a .image) dst))
+  where
+    joined : (a b : List ℕ) → length a % 6 ≡ 0 → length (a ++ b) / 6 ≡ length a / 6 + length b / 6
+    joined a b h = rw length-append (omega arith)

@@ -1,0 +1,258 @@
+-- What a registrar may rely on. Each claim stands under one sentence, with its premises; proofs/Claims.antt proves it by its name. They speak of runs
+-- by demand 2's rules (`Ran`, which is what `run` promises: crate runner, specs/Run), of readings and writings (crate listing, specs/Listing), and of
+-- one lane's instruction (crate lane, specs/Refusals).
+use Prim.Native.Nat.{ℕ, zero, suc, _+_, _-_, _/_, _%_, _<_, _≤_}
+use mathlib.Core.Path.{_≡_}
+use mathlib.Core.Bool.{true}
+use mathlib.Core.List.{List, [], _∷_, _++_}
+use lib.ListN.{length, getD}
+use lib.Dec.{eqb, T}
+use Rattle.lane.specs.declared.Settings.{Settings}
+use Rattle.lane.specs.declared.Insn.{Insn}
+use Rattle.lane.specs.declared.Stepped.{Stepped}
+use Rattle.lane.specs.Words.{pick}
+use Rattle.lane.specs.Refusals.{laneStep}
+use Rattle.runner.specs.declared.Outcome.{Outcome}
+use Rattle.runner.specs.Image.{laneIn, imageGood}
+use Rattle.runner.specs.Checks.{countOf, runAnswer, listAnswer}
+use Rattle.runner.specs.Run.{finish, Ran}
+use Rattle.listing.specs.declared.Reading.{Reading}
+use Rattle.listing.specs.declared.Writing.{Writing}
+use Rattle.listing.specs.declared.Reporting.{Reporting}
+use Rattle.listing.specs.Report.{Reports}
+use Rattle.listing.specs.Program.{output}
+use Rattle.listing.specs.Forms.{LF, taken, scan}
+use Rattle.listing.specs.Listing.{header, lines, countIn, inFront, acceptedReading, acceptedWriting, listing, readText, writeList}
+use Rattle.claims.specs.Twelve.{all, twelve}
+
+-- ---- columns
+
+-- An image is well formed: 768 words, and each lane's within their ranges.
+pub record WellFormedImage (image : List ℕ) : Type 0 where
+  pub long : length image ≡ 768
+  pub good : imageGood image ≡ true
+
+-- Two images agree in the four lanes of column c.
+unfoldable pub SameColumn : ℕ → List ℕ → List ℕ → Type 0
+SameColumn c a b = (L s : ℕ) → L < 32 → L % 8 ≡ c → s < 24 → laneIn a L s ≡ laneIn b L s
+
+-- Two Dsts agree in the two columns of lane column c: 2c and 2c + 1 of each row of 16 cells.
+unfoldable pub SameCells : ℕ → List ℕ → List ℕ → Type 0
+SameCells c d e = (p : ℕ) → p < 16384 → p % 16 / 2 ≡ c → getD d p 0 ≡ getD e p 0
+
+-- Demand 3: two runs with one list and the same settings that agree in a column's four lanes and its two Dst columns give that column the same
+-- words, and the same answer, place, steps and cursor, whatever the other seven hold.
+unfoldable pub Isolated : Type 0
+Isolated =
+    (c : ℕ) (s : Settings) (list a b d e : List ℕ) (o p : Outcome) (x y : List ℕ)
+    → WellFormedImage a
+    → WellFormedImage b
+    → length d ≡ 16384
+    → length e ≡ 16384
+    → SameColumn c a b
+    → SameCells c d e
+    → Ran s a d list o x
+    → Ran s b e list p y
+    → (o ≡ p) × SameColumn c x y
+
+-- There are two runs that it speaks of: their images differ outside column 0, and so do their Dsts; the list is accepted, and it changes column 0.
+pub record TwoRuns : Type 0 where
+  pub settings : Settings
+  pub list : List ℕ
+  pub image : List ℕ
+  pub other-image : List ℕ
+  pub dst : List ℕ
+  pub other-dst : List ℕ
+  pub outcome : Outcome
+  pub after : List ℕ
+  pub formed : WellFormedImage image
+  pub other-formed : WellFormedImage other-image
+  pub dst-long : length dst ≡ 16384
+  pub other-dst-long : length other-dst ≡ 16384
+  pub same-column : SameColumn 0 image other-image
+  pub same-cells : SameCells 0 dst other-dst
+  pub images-differ : SameColumn 1 image other-image → ⊥
+  pub dsts-differ : SameCells 1 dst other-dst → ⊥
+  pub ran : Ran settings image dst list outcome after
+  pub accepted : outcome .answer ≡ 0
+  pub changed : SameColumn 0 image after → ⊥
+
+-- ---- runs
+
+-- A refusal returns its number and place, steps 0 and the given cursor, and touches no word of the image.
+unfoldable pub RefusalTouchesNothing : Type 0
+RefusalTouchesNothing =
+    (s : Settings) (image dst list : List ℕ) (o : Outcome) (after : List ℕ)
+    → Ran s image dst list o after
+    → (o .answer ≡ 0 → ⊥)
+    → (after ≡ image)
+    × ((o .answer ≡ runAnswer s image dst list .answer) × ((o .place ≡ runAnswer s image dst list .place) × ((o .steps ≡ 0) × (o .cursor ≡ s .cursor))))
+
+-- An instruction that the lane rules refuse leaves the lane's words as given.
+unfoldable pub RefusedLaneTouchesNothing : Type 0
+RefusedLaneTouchesNothing =
+    (s : Settings) (L : ℕ) (i : Insn) (own head : List ℕ) (even odd : ℕ)
+    → (laneStep s L i own head even odd .answer ≡ 0 → ⊥)
+    → laneStep s L i own head even odd .words ≡ own
+
+-- A run that is done has gone through the whole list: its steps are the list's instructions, its image and cursor the ones that they lead to.
+unfoldable pub GoesThroughTheList : Type 0
+GoesThroughTheList =
+    (s : Settings) (image dst list : List ℕ) (o : Outcome) (after : List ℕ)
+    → Ran s image dst list o after
+    → o .answer ≡ 0
+    → (o .steps ≡ countOf list)
+    × ((o .place ≡ 0) × ((o .cursor ≡ finish s image dst list .cursor) × (after ≡ finish s image dst list .image)))
+
+-- A well formed image is well formed after every run.
+unfoldable pub WellFormedStays : Type 0
+WellFormedStays =
+    (s : Settings) (image dst list : List ℕ) (o : Outcome) (after : List ℕ)
+    → Ran s image dst list o after
+    → WellFormedImage image
+    → WellFormedImage after
+
+-- The same settings with another cursor.
+unfoldable pub withCursor : ℕ → Settings → Settings
+withCursor k s =
+    record {
+      edition = s .edition;
+      srcb = s .srcb;
+      offset = s .offset;
+      cursor = k;
+      stride0 = s .stride0;
+      stride1 = s .stride1;
+      stride2 = s .stride2;
+      stride3 = s .stride3;
+    }
+
+-- A run can be cut anywhere: where a list of two parts is done, so is its first part, and so is the second from the image and the cursor that the first
+-- leaves; it ends in the same image with the same cursor, and the steps add up.
+unfoldable pub CanBeCut : Type 0
+CanBeCut =
+    (s : Settings) (image dst a b : List ℕ) (o p q : Outcome) (after middle end : List ℕ)
+    → length a % 6 ≡ 0
+    → Ran s image dst (a ++ b) o after
+    → o .answer ≡ 0
+    → Ran s image dst a p middle
+    → Ran (withCursor (p .cursor) s) middle dst b q end
+    → (p .answer ≡ 0) × ((q .answer ≡ 0) × ((end ≡ after) × ((q .cursor ≡ o .cursor) × (o .steps ≡ p .steps + q .steps))))
+
+-- ---- listings
+
+-- A refused reading returns length 0, and touches no word of the lent room;
+unfoldable pub RefusedReadingTouchesNothing : Type 0
+RefusedReadingTouchesNothing =
+    (t before after : List ℕ) (r : Reading)
+    → (r ≡ readText (length before) t .reading) × (after ≡ inFront (readText (length before) t .list) before)
+    → (r .answer ≡ 0 → ⊥)
+    → (after ≡ before) × (r .length ≡ 0)
+
+-- nor does a refused writing touch a byte of its own.
+unfoldable pub RefusedWritingTouchesNothing : Type 0
+RefusedWritingTouchesNothing =
+    (s : Settings) (list before after : List ℕ) (w : Writing)
+    → (w ≡ writeList (length before) s list .writing) × (after ≡ inFront (writeList (length before) s list .bytes) before)
+    → (w .answer ≡ 0 → ⊥)
+    → (after ≡ before) × (w .length ≡ 0)
+
+-- Whatever is written is read back to the same settings and list.
+unfoldable pub WrittenThenRead : Type 0
+WrittenThenRead =
+    (room : ℕ) (s : Settings) (list : List ℕ)
+    → listAnswer s list .answer ≡ 0
+    → length list ≤ room
+    → readText room (listing s list) ≡ record { reading = acceptedReading s (length list); list = list }
+
+-- Whatever is read, written again into room enough, gives the same bytes.
+unfoldable pub ReadThenWritten : Type 0
+ReadThenWritten =
+    (room : ℕ) (t : List ℕ)
+    → readText room t .reading .answer ≡ 0
+    → writeList (length t) (readText room t .reading .settings) (readText room t .list)
+    ≡ record { writing = acceptedWriting (readText room t .reading .settings) (length t); bytes = t }
+
+-- The writer could have written a text.
+abbrev pub Writable : List ℕ → Type 0
+Writable t = (s : Settings) × ((list : List ℕ) × ((listAnswer s list .answer ≡ 0) × (t ≡ listing s list)))
+
+-- A text is accepted, given room enough, exactly if the writer could have written it.
+unfoldable pub AcceptedExactlyIfWritable : Type 0
+AcceptedExactlyIfWritable =
+    (room : ℕ) (t : List ℕ)
+    → (readText room t .reading .answer ≡ 0 → Writable t) × (6144 ≤ room → Writable t → readText room t .reading .answer ≡ 0)
+
+-- The first k lines of a text, each with the LF that ends it; the last may lack its own.
+unfoldable pub firstLines : ℕ → List ℕ → List ℕ
+firstLines zero t = []
+firstLines (suc k) [] = []
+firstLines (suc k) (b ∷ t) = b ∷ pick (eqb b LF) (firstLines k t) (firstLines (suc k) t)
+
+-- A text in form, fields of the right width, whatever their range: a header, as many instruction lines as it counts, and no more.
+pub record InForm (t : List ℕ) : Type 0 where
+  pub ns : List ℕ
+  pub rest : List ℕ
+  pub list : List ℕ
+  pub headed : scan header t ≡ taken ns rest
+  pub lined : scan (lines (countIn ns)) rest ≡ taken list []
+
+-- Line n of t, counted from 1, is the first not in form, missing or extra: the lines before it begin some text in form, and no text in form
+-- agrees with t through it.
+pub record FirstFault (t : List ℕ) (n : ℕ) : Type 0 where
+  pub some : (t′ : List ℕ) × (InForm t′ × (firstLines (n - 1) t ≡ firstLines (n - 1) t′))
+  pub none : (t′ : List ℕ) → InForm t′ → firstLines n t ≡ firstLines n t′ → ⊥
+
+-- 10 names that line.
+unfoldable pub TenNamesTheLine : Type 0
+TenNamesTheLine =
+    (room : ℕ) (t : List ℕ)
+    → readText room t .reading .answer ≡ 10
+    → FirstFault t (readText room t .reading .place)
+
+-- ---- outcomes
+
+-- Any two outcomes that a promise allows coincide, with all that was lent: of `run`,
+unfoldable pub RunsCoincide : Type 0
+RunsCoincide =
+    (s : Settings) (image dst list : List ℕ) (o p : Outcome) (x y : List ℕ)
+    → Ran s image dst list o x
+    → Ran s image dst list p y
+    → (o ≡ p) × (x ≡ y)
+
+-- of the lane rules,
+unfoldable pub LanesCoincide : Type 0
+LanesCoincide =
+    (s : Settings) (L : ℕ) (i : Insn) (own head : List ℕ) (even odd : ℕ) (r r′ : Stepped)
+    → r ≡ laneStep s L i own head even odd
+    → r′ ≡ laneStep s L i own head even odd
+    → r ≡ r′
+
+-- of `read`,
+unfoldable pub ReadingsCoincide : Type 0
+ReadingsCoincide =
+    (t before after after′ : List ℕ) (r r′ : Reading)
+    → (r ≡ readText (length before) t .reading) × (after ≡ inFront (readText (length before) t .list) before)
+    → (r′ ≡ readText (length before) t .reading) × (after′ ≡ inFront (readText (length before) t .list) before)
+    → (r ≡ r′) × (after ≡ after′)
+
+-- of `write`,
+unfoldable pub WritingsCoincide : Type 0
+WritingsCoincide =
+    (s : Settings) (list before after after′ : List ℕ) (w w′ : Writing)
+    → (w ≡ writeList (length before) s list .writing) × (after ≡ inFront (writeList (length before) s list .bytes) before)
+    → (w′ ≡ writeList (length before) s list .writing) × (after′ ≡ inFront (writeList (length before) s list .bytes) before)
+    → (w ≡ w′) × (after ≡ after′)
+
+-- and of the program's work, `replay`.
+unfoldable pub ReportsCoincide : Type 0
+ReportsCoincide =
+    (t before after after′ : List ℕ) (r r′ : Reporting)
+    → Reports (output t) before after r
+    → Reports (output t) before after′ r′
+    → (r ≡ r′) × (after ≡ after′)
+
+-- ---- the twelve
+
+-- Document 01's twelve, of the rules that contracts cite.
+unfoldable pub TwelveHold : Type 0
+TwelveHold = T (all twelve)
