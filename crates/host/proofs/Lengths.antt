@@ -11,8 +11,8 @@ use Rattle.listing.specs.declared.Reading.{Reading}
 use Rattle.listing.specs.declared.Writing.{Writing}
 use Rattle.listing.specs.Forms.{Scan, taken, faulty, scan}
 use Rattle.listing.specs.Listing.{header, lines, settingsOf, countIn, Read, Write, refusedReading, acceptedReading, readList, readRest, readHeader, readText, refusedWriting, acceptedWriting, writeList}
-use Rattle.listing.proofs.Writers.{accepted, few-words}
-use Rattle.listing.proofs.Held.{listing-short}
+use Rattle.runner.proofs.Accepted.{listed}
+use Rattle.listing.proofs.Writers.{few-words, listing-short}
 
 read-either : (b : Bool) (x y : Read) (n : ℕ) → (b ≡ true → x .reading .length ≤ n) → y .reading .length ≤ n → pick b x y .reading .length ≤ n
 unfolding pick
@@ -51,7 +51,7 @@ write-short : (room : ℕ) (s : Settings) (list : List ℕ) → writeList room s
 unfolding writeList refusedWriting acceptedWriting
 write-short room s list =
     write-either _ _ _ 65536
-    (λ e. write-either _ _ _ 65536 (λ _. listing-short s list (accepted s list (eqb-true _ _ e) .few)) (omega arith))
+    (λ e. write-either _ _ _ 65536 (λ _. listing-short s list (listed s list (eqb-true _ _ e) .checked .few)) (omega arith))
     (omega arith)
 
 pub write-fits : (room : ℕ) (s : Settings) (list : List ℕ) (r : Writing) → r ≡ writeList room s list .writing → r .length ≤ 65536

@@ -1,4 +1,3 @@
 -- Laws behind the host's answers.
 pub mod Told
 pub mod Lengths
-pub mod Registers

@@ -7,7 +7,7 @@ use Rattle.lane.specs.declared.Insn.{Insn}
 use Rattle.lane.specs.declared.Stepped.{Stepped}
 use Rattle.lane.specs.Refusals.{laneStep}
 use Rattle.runner.specs.declared.Outcome.{Outcome}
-use Rattle.runner.specs.Run.{outcomeOf, runImage}
+use Rattle.runner.specs.Run.{outcomeOf, runImage, Ran}
 use Rattle.listing.specs.declared.Reading.{Reading}
 use Rattle.listing.specs.declared.Writing.{Writing}
 use Rattle.listing.specs.Listing.{readText, writeList, inFront}
@@ -16,11 +16,11 @@ use Rattle.host.specs.Words.{outcomeWords, settingsWords, readingWords, 
 pub told-run :
     (s t : Settings) (image dst list left : List ℕ) (o : Outcome)
     → s ≡ t
-    → (o ≡ outcomeOf s image dst list) × (left ≡ runImage s image dst list)
+    → Ran s image dst list o left
     → (o .answer ≡ outcomeOf t image dst list .answer)
     × ((outcomeWords o ≡ outcomeWords (outcomeOf t image dst list)) × (left ≡ runImage t image dst list))
 told-run s t image dst list left o e h =
-    rw (← e) (ap (λ (x : Outcome). x .answer) (h .0), (ap outcomeWords (h .0), h .1))
+    rw (← e) (ap (λ (x : Outcome). x .answer) (h .outcome-is), (ap outcomeWords (h .outcome-is), h .image-is))
 
 pub told-lane :
     (s t : Settings) (L : ℕ) (i j : Insn) (own head : List ℕ) (even odd : ℕ) (o : Stepped)

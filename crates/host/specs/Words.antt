@@ -8,20 +8,6 @@ use Rattle.runner.specs.declared.Outcome.{Outcome}
 use Rattle.listing.specs.declared.Reading.{Reading}
 use Rattle.listing.specs.declared.Writing.{Writing}
 
--- Eight words are a run's settings, in the listing's order.
-unfoldable pub settingsOf : List ℕ → Settings
-settingsOf ws =
-    record {
-      edition = getD ws 0 0;
-      srcb = getD ws 1 0;
-      offset = getD ws 2 0;
-      cursor = getD ws 3 0;
-      stride0 = getD ws 4 0;
-      stride1 = getD ws 5 0;
-      stride2 = getD ws 6 0;
-      stride3 = getD ws 7 0;
-    }
-
 -- Six words are an instruction, in the list's order.
 unfoldable pub insnOf : List ℕ → Insn
 insnOf ws =

@@ -5,31 +5,18 @@ use lane::Insn;
 use lane::Settings;
 use lane::step::step_lane;
 use listing::reader::read;
+use listing::reader::settings_of;
 use listing::writer::write;
 use runner::run::run;
+use runner::view::register_count;
+use runner::view::register_start;
 ghost use mathlib.Core.Path.{_≡_};
 ghost use lib.ListN.{length};
 ghost use Rattle.lane.specs.Refusals.{laneStep};
 ghost use Rattle.runner.specs.Run.{outcomeOf, runImage};
-ghost use Rattle.listing.specs.Listing.{readText, writeList, inFront};
-ghost use Rattle.host.specs.Words.{settingsOf, settingsWords, insnOf, outcomeWords, readingWords, writingWords};
-ghost use Rattle.host.specs.View.{inView, registerStart, registerCount};
-
-// A run's settings, from eight words in the listing's order.
-fn settings_of(words: &[u32; 8]) -> Settings
-    ensures { λ r. ⌜ r ≡ settingsOf (now (words .entry)) ⌝ }
-{
-    Settings {
-        edition: words[0],
-        srcb: words[1],
-        offset: words[2],
-        cursor: words[3],
-        stride0: words[4],
-        stride1: words[5],
-        stride2: words[6],
-        stride3: words[7],
-    }
-}
+ghost use Rattle.runner.specs.Image.{registerStart, registerCount};
+ghost use Rattle.listing.specs.Listing.{settingsOf, readText, writeList, inFront};
+ghost use Rattle.host.specs.Words.{settingsWords, insnOf, outcomeWords, readingWords, writingWords};
 
 // An instruction, from six words in the list's order.
 fn insn_of(words: &[u32; 6]) -> Insn
@@ -149,27 +136,12 @@ pub extern "C" fn replay_write(
     put.answer
 }
 
-// Whether there is something to see of a register in an image of `size` words.
-fn in_view(size: usize, register: u32) -> bool
-    ensures { λ r. ⌜ r ≡ inView size register ⌝ }
-{
-    (size == 768) & ((register < 8) | ((10 < register) & (register < 15)))
-}
-
 // Where a register's words start in an image of `size` words.
 #[no_mangle]
 pub extern "C" fn replay_register_start(size: usize, register: u32) -> usize
     ensures { λ r. ⌜ r ≡ registerStart size register ⌝ }
 {
-    if in_view(size, register) {
-        if register < 8 {
-            32 * (register as usize)
-        } else {
-            32 * (register as usize - 3)
-        }
-    } else {
-        0
-    }
+    register_start(size, register)
 }
 
 // How many words a register has in an image of `size` words: one for each lane, or none.
@@ -177,5 +149,5 @@ pub extern "C" fn replay_register_start(size: usize, register: u32) -> usize
 pub extern "C" fn replay_register_count(size: usize, register: u32) -> usize
     ensures { λ r. ⌜ r ≡ registerCount size register ⌝ }
 {
-    if in_view(size, register) { 32 } else { 0 }
+    register_count(size, register)
 }

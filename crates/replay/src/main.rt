@@ -7,6 +7,7 @@ fn main() {
     let mut text = [0u8; 65537];
     let n = io::read_full(STDIN_FILENO, &mut text);
     let mut room = [0u8; 11188];
-    let length = listing::program::replay(&text[..n], &mut room);
+    let printed = listing::program::replay(&text[..n], &mut room);
+    let length = printed.length;
     io::write_all(STDOUT_FILENO, &room[..length]);
 }

@@ -1,4 +1,5 @@
-use Rattle.host.specs.Words.{settingsOf, insnOf}
+use Rattle.host.specs.Words.{insnOf}
+use Rattle.listing.specs.Listing.{settingsOf}
 use Rattle.host.proofs.Told.{told-lane}
 use borrow.Author.Needs.{needs}
 use Rattle.host.proofs.replay_lane.Statement.{statement}
@@ -17,14 +18,14 @@ returns : tie.Need-returns
 returns c =
     told-lane
     (c .before .before .before .before .before .settings-of .result)
-    (settingsOf (c .before .before .before .before .before .before .args .settings .now))
-    (c .before .before .before .before .before .before .args .lane)
+    (settingsOf (c .before .before .before .before .before .before .before .args .settings .now))
+    (c .before .before .before .before .before .before .before .args .lane)
     (c .before .before .before .before .insn-of .result)
-    (insnOf (c .before .before .before .before .before .before .args .insn .now))
-    (c .before .before .before .before .before .before .args .own .now)
-    (c .before .before .before .before .before .before .args .head .now)
-    (c .before .before .before .before .before .before .args .even-cell)
-    (c .before .before .before .before .before .before .args .odd-cell)
+    (insnOf (c .before .before .before .before .before .before .before .args .insn .now))
+    (c .before .before .before .before .before .before .before .args .own .now)
+    (c .before .before .before .before .before .before .before .args .head .now)
+    (c .before .before .before .before .before .before .before .args .even-cell)
+    (c .before .before .before .before .before .before .before .args .odd-cell)
     (c .before .step-lane .result)
     (c .before .before .before .before .before .settings-of .ensures)
     (c .before .before .before .before .insn-of .ensures)

@@ -1,4 +1,5 @@
-use Rattle.host.specs.Words.{settingsOf, outcomeWords}
+use Rattle.host.specs.Words.{outcomeWords}
+use Rattle.listing.specs.Listing.{settingsOf}
 use Rattle.host.proofs.Told.{told-run}
 use borrow.Author.Needs.{needs}
 use Rattle.host.proofs.replay_run.Statement.{statement}
@@ -18,10 +19,10 @@ unfolding outcomeWords
 returns c =
     told-run
     (c .before .before .before .before .before .settings-of .result)
-    (settingsOf (c .before .before .before .before .before .before .before .before .before .args .settings .now))
-    (c .before .before .before .before .before .before .before .before .before .args .image .now)
-    (c .before .before .before .before .before .before .before .before .before .args .dst .now)
-    (c .before .before .before .before .before .before .before .before .before .args .list .now)
+    (settingsOf (c .before .before .before .before .before .before .before .before .before .before .args .settings .now))
+    (c .before .before .before .before .before .before .before .before .before .before .args .image .now)
+    (c .before .before .before .before .before .before .before .before .before .before .args .dst .now)
+    (c .before .before .before .before .before .before .before .before .before .before .args .list .now)
     _
     (c .before .before .before .run .result)
     (c .before .before .before .before .before .settings-of .ensures)

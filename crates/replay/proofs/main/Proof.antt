@@ -1,7 +1,7 @@
 use borrow.Author.Needs.{needs}
 use lib.Seq.{length-take-le}
 use mathlib.Core.Path.{sym}
-use Rattle.listing.proofs.Programs.{reported-in}
+use Rattle.listing.proofs.Reports.{reports-within}
 use Rattle.replay.proofs.main.Statement.{statement}
 use Rattle.replay.proofs.main.Tie as tie
 
@@ -24,13 +24,13 @@ replay-requires : tie.Need-replay-requires
 replay-requires c κs = search needs
 
 array-share-prefix-room : tie.Need-array-share-prefix-room
-array-share-prefix-room c = reported-in _ _ (c .before .replay .last .1 .0) _ (c .before .replay .ensures .0) (c .before .replay .kept .1 .0)
+array-share-prefix-room c = reports-within _ _ (c .before .replay .last .1 .0) _ (c .before .replay .ensures) (c .before .replay .kept .1 .0)
 
 slice-aggregate-write-all : tie.Need-slice-aggregate-write-all
 slice-aggregate-write-all c =
     sym
     (length-take-le _ (c .before .before .replay .last .1 .0)
-    (reported-in _ _ (c .before .before .replay .last .1 .0) _ (c .before .before .replay .ensures .0) (c .before .before .replay .kept .1 .0)))
+    (reports-within _ _ (c .before .before .replay .last .1 .0) _ (c .before .before .replay .ensures) (c .before .before .replay .kept .1 .0)))
 
 write-all-requires : tie.Need-write-all-requires
 write-all-requires c κs = search needs
