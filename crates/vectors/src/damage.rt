@@ -21,7 +21,7 @@ pub struct Form {
 }
 
 // How many damages a run case or a lane case has.
-pub fn damages(x: &mut u32) -> u32 {
+pub(crate) fn damages(x: &mut u32) -> u32 {
     let t = below(x, 12);
     if t == 0 {
         return 1;
@@ -58,7 +58,7 @@ fn bad_setting(i: u32, v: u32, w: u32) -> u32 {
     0
 }
 
-pub fn damage_setting(x: &mut u32, s: Settings) -> Settings {
+pub(crate) fn damage_setting(x: &mut u32, s: Settings) -> Settings {
     let i = below(x, 8);
     let v = below(x, 4);
     let value = bad_setting(i, v, word(x));
@@ -77,7 +77,7 @@ pub fn damage_setting(x: &mut u32, s: Settings) -> Settings {
 }
 
 // A list whose length is no multiple of six.
-pub fn damage_length(x: &mut u32, length: u32) -> u32 {
+pub(crate) fn damage_length(x: &mut u32, length: u32) -> u32 {
     let e = 1 + below(x, 5);
     let shorter = below(x, 2) == 1;
     if length >= 6 {
@@ -186,13 +186,13 @@ fn damage_place(x: &mut u32, made: u32) -> u32
 }
 
 // To the one instruction of a lane case: a place is drawn all the same.
-pub fn damage_only(x: &mut u32, i: Insn) -> Insn {
+pub(crate) fn damage_only(x: &mut u32, i: Insn) -> Insn {
     damage_place(x, 1);
     damage_insn(x, i)
 }
 
 // To one of the instructions that were made.
-pub fn damage_listed(x: &mut u32, list: &mut [u32; LIST], made: u32) {
+pub(crate) fn damage_listed(x: &mut u32, list: &mut [u32; LIST], made: u32) {
     if made > 0 {
         let place = damage_place(x, made) as usize;
         let damaged = damage_insn(x, insn_at(list, place));
@@ -201,14 +201,14 @@ pub fn damage_listed(x: &mut u32, list: &mut [u32; LIST], made: u32) {
 }
 
 // Instructions up to one more than a list may have, and the length of such a list.
-pub fn too_many(x: &mut u32, list: &mut [u32; LIST], made: u32) -> u32 {
+pub(crate) fn too_many(x: &mut u32, list: &mut [u32; LIST], made: u32) -> u32 {
     let e = below(x, 12);
     fill_up(list, made as usize);
     if e < 6 { 6150 + e } else { 6150 }
 }
 
 // A lane that is not well formed.
-pub fn damage_form(x: &mut u32) -> Form {
+pub(crate) fn damage_form(x: &mut u32) -> Form {
     let way = below(x, 4);
     let lane = below(x, 32);
     let v = below(x, 3);

@@ -129,7 +129,7 @@ fn print(k: u32, answer: u32, words: &[u32; 24]) {
 }
 
 // Case `k` of a seed, and its line.
-pub fn lane_case(seed: u32, k: u32) {
+pub(crate) fn lane_case(seed: u32, k: u32) {
     let mut x = state_of(seed, k);
     throw_away(&mut x, 8);
     let whole = case_of(&mut x);

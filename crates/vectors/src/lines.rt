@@ -8,7 +8,7 @@ fn mixed(h: u32, w: u32) -> u32 {
     (wide(h ^ w) * 16777619 % 4294967296) as u32
 }
 
-pub fn checksum(words: &[u32]) -> u32 {
+pub(crate) fn checksum(words: &[u32]) -> u32 {
     let mut h: u32 = 2166136261;
     let mut i: usize = 0;
     while i < words.len() {
@@ -22,7 +22,7 @@ fn byte_mixed(h: u32, byte: u8) -> u32 {
     mixed(h, byte as u32)
 }
 
-pub fn byte_checksum(bytes: &[u8]) -> u32 {
+pub(crate) fn byte_checksum(bytes: &[u8]) -> u32 {
     let mut h: u32 = 2166136261;
     let mut i: usize = 0;
     while i < bytes.len() {
@@ -32,7 +32,7 @@ pub fn byte_checksum(bytes: &[u8]) -> u32 {
     h
 }
 
-pub fn put_byte(line: &mut [u8; LINE], at: usize, byte: u8) -> usize {
+pub(crate) fn put_byte(line: &mut [u8; LINE], at: usize, byte: u8) -> usize {
     if at < LINE {
         line[at] = byte;
         return at + 1;
@@ -40,7 +40,7 @@ pub fn put_byte(line: &mut [u8; LINE], at: usize, byte: u8) -> usize {
     at
 }
 
-pub fn put_bytes(line: &mut [u8; LINE], from: usize, bytes: &[u8]) -> usize {
+pub(crate) fn put_bytes(line: &mut [u8; LINE], from: usize, bytes: &[u8]) -> usize {
     let mut at = from;
     let mut i: usize = 0;
     while i < bytes.len() {
@@ -51,7 +51,7 @@ pub fn put_bytes(line: &mut [u8; LINE], from: usize, bytes: &[u8]) -> usize {
 }
 
 // A space, and a length in decimal.
-pub fn put_length(line: &mut [u8; LINE], at: usize, n: usize) -> usize {
+pub(crate) fn put_length(line: &mut [u8; LINE], at: usize, n: usize) -> usize {
     let mut digits = [0u8; 20];
     let count = io::decimal(n as u64, &mut digits);
     let after = put_byte(line, at, b' ');
@@ -59,7 +59,7 @@ pub fn put_length(line: &mut [u8; LINE], at: usize, n: usize) -> usize {
 }
 
 // A space, and a number in decimal.
-pub fn put_number(line: &mut [u8; LINE], at: usize, n: u32) -> usize {
+pub(crate) fn put_number(line: &mut [u8; LINE], at: usize, n: u32) -> usize {
     put_length(line, at, n as usize)
 }
 
@@ -69,7 +69,7 @@ fn glyph(d: u32) -> u8 {
 }
 
 // A space, and a checksum in hexadecimal.
-pub fn put_sum(line: &mut [u8; LINE], at: usize, sum: u32) -> usize {
+pub(crate) fn put_sum(line: &mut [u8; LINE], at: usize, sum: u32) -> usize {
     let mut digits = [b' '; 9];
     let mut rest = sum;
     let mut i: usize = 9;
@@ -82,7 +82,7 @@ pub fn put_sum(line: &mut [u8; LINE], at: usize, sum: u32) -> usize {
 }
 
 // The line's end, and the line on standard output.
-pub fn end_line(line: &mut [u8; LINE], at: usize) {
+pub(crate) fn end_line(line: &mut [u8; LINE], at: usize) {
     let end = put_byte(line, at, b'\n');
     write_part(line, end);
 }

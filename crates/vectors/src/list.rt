@@ -4,7 +4,7 @@ use lane::Insn;
 
 pub const LIST: usize = 6160;
 
-pub fn insn_at(list: &[u32; LIST], place: usize) -> Insn {
+pub(crate) fn insn_at(list: &[u32; LIST], place: usize) -> Insn {
     let at = 6 * (place % 1025);
     Insn {
         op: list[at],
@@ -17,11 +17,11 @@ pub fn insn_at(list: &[u32; LIST], place: usize) -> Insn {
 }
 
 // The op of instruction `place`; 0 past the array.
-pub fn op_at(list: &[u32; LIST], place: usize) -> u32 {
+pub(crate) fn op_at(list: &[u32; LIST], place: usize) -> u32 {
     if place <= 1026 { list[6 * place] } else { 0 }
 }
 
-pub fn put_insn(list: &mut [u32; LIST], place: usize, i: Insn) {
+pub(crate) fn put_insn(list: &mut [u32; LIST], place: usize, i: Insn) {
     let at = 6 * (place % 1025);
     list[at] = i.op;
     list[at + 1] = i.imm;
@@ -31,7 +31,7 @@ pub fn put_insn(list: &mut [u32; LIST], place: usize, i: Insn) {
     list[at + 5] = i.md;
 }
 
-pub fn make_list(x: &mut u32, list: &mut [u32; LIST], made: u32) {
+pub(crate) fn make_list(x: &mut u32, list: &mut [u32; LIST], made: u32) {
     let count = made as usize;
     let mut place: usize = 0;
     while place < count {
@@ -41,7 +41,7 @@ pub fn make_list(x: &mut u32, list: &mut [u32; LIST], made: u32) {
 }
 
 // NOPs from a place on, up to one more instruction than a list may have.
-pub fn fill_up(list: &mut [u32; LIST], made: usize) {
+pub(crate) fn fill_up(list: &mut [u32; LIST], made: usize) {
     let nop = Insn {
         op: 15,
         imm: 0,

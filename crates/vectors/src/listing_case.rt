@@ -263,7 +263,7 @@ fn print(k: u32, w: Wrote, r: ReadBack, again: u32) {
 }
 
 // Case `k` of a seed, and its line.
-pub fn listing_case(seed: u32, k: u32) {
+pub(crate) fn listing_case(seed: u32, k: u32) {
     let mut x = state_of(seed, k);
     throw_away(&mut x, 12);
     let mut list = [0u32; LIST];

@@ -22,7 +22,7 @@ fn setting(x: &mut u32) -> u32 {
     v
 }
 
-pub fn settings(x: &mut u32) -> Settings {
+pub(crate) fn settings(x: &mut u32) -> Settings {
     let edition = 1 + below(x, 2);
     let srcb = 1 + below(x, 2);
     let offset = setting(x);
@@ -64,7 +64,7 @@ fn second_source(op: u32, md: u32, vb: u32) -> u32 {
     if absent { 0 } else { vb }
 }
 
-pub fn instruction(x: &mut u32) -> Insn {
+pub(crate) fn instruction(x: &mut u32) -> Insn {
     let op = 1 + below(x, 15);
     let imm = below(x, limit(op, 0));
     let vb = below(x, limit(op, 1));
@@ -139,7 +139,7 @@ fn one_if(test: bool) -> u32 {
 }
 
 // The word of a slot; `before` is the lane's word in the slot before.
-pub fn lane_word(x: &mut u32, slot: u32, before: u32, c: u32, u: u32) -> u32 {
+pub(crate) fn lane_word(x: &mut u32, slot: u32, before: u32, c: u32, u: u32) -> u32 {
     if slot < 12 {
         return register_word(x, slot, before);
     }
@@ -152,7 +152,7 @@ pub fn lane_word(x: &mut u32, slot: u32, before: u32, c: u32, u: u32) -> u32 {
     }
 }
 
-pub fn cell(x: &mut u32) -> u16 {
+pub(crate) fn cell(x: &mut u32) -> u16 {
     let d = draw(x);
     if *x / 8192 % 8 == 0 {
         return special_cell(d);

@@ -200,7 +200,7 @@ fn run_damaged(
 }
 
 // Case `k` of a seed, and its line.
-pub fn run_case(seed: u32, k: u32) {
+pub(crate) fn run_case(seed: u32, k: u32) {
     let mut x = state_of(seed, k);
     throw_away(&mut x, 4);
     let mut list = [0u32; LIST];

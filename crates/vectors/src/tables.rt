@@ -67,31 +67,31 @@ const REFUSED: [u32; 4] = [3, 4, 10, 12];
 
 const LOAD_MODS: [u8; 16] = *b"\x00\x01\x02\x05\x06\x07\x08\x09\x0B\x0D\x0E\x0F\x00\x01\x02\x0D";
 
-pub fn special(i: u32) -> u32 {
+pub(crate) fn special(i: u32) -> u32 {
     SPECIAL[(i % 32) as usize]
 }
 
-pub fn special_cell(i: u32) -> u16 {
+pub(crate) fn special_cell(i: u32) -> u16 {
     CELLS[(i % 16) as usize]
 }
 
-pub fn likely(i: u32) -> u8 {
+pub(crate) fn likely(i: u32) -> u8 {
     LIKELY[(i % 16) as usize]
 }
 
 // Byte `i` of name `g`.
-pub fn name_byte(g: u32, i: usize) -> u8 {
+pub(crate) fn name_byte(g: u32, i: usize) -> u8 {
     NAMES[(g % 20) as usize * 6 + i % 6]
 }
 
-pub fn name_length(g: u32) -> usize
+pub(crate) fn name_length(g: u32) -> usize
     ensures { λ r. ⌜ r < 7 ⌝ }
 {
     NAME_LENGTHS[(g % 20) as usize] % 7
 }
 
 // The letters of an op's name in a listing; three where there is no such op.
-pub fn op_letters(op: u32) -> usize
+pub(crate) fn op_letters(op: u32) -> usize
     ensures { λ r. ⌜ r < 7 ⌝ }
 {
     if op == 0 {
@@ -103,7 +103,7 @@ pub fn op_letters(op: u32) -> usize
     3
 }
 
-pub fn refused_mod(i: u32) -> u32 {
+pub(crate) fn refused_mod(i: u32) -> u32 {
     REFUSED[(i % 4) as usize]
 }
 
@@ -144,7 +144,7 @@ fn vd_limit(op: u32) -> u32 {
 }
 
 // The limit of field 0 imm, 1 vb, 2 vc or 3 vd; NOP's where there is no such op.
-pub fn limit(op: u32, field: u32) -> u32 {
+pub(crate) fn limit(op: u32, field: u32) -> u32 {
     match field {
         0 => imm_limit(op),
         1 => vb_limit(op),
@@ -163,7 +163,7 @@ fn load_mod(m: u32) -> u8 {
 }
 
 // One of sixteen mods that an op allows, repeated where there are fewer.
-pub fn allowed_mod(op: u32, m: u32) -> u32 {
+pub(crate) fn allowed_mod(op: u32, m: u32) -> u32 {
     match op {
         1 => load_mod(m) as u32,
         2 => 8 + m % 2 * 2,

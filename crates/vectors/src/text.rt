@@ -5,11 +5,11 @@ ghost use Prim.Native.Nat.{_≤_, _+_, _-_};
 
 pub const ROOM: usize = 65700;
 
-pub fn byte_at(text: &[u8; ROOM], at: usize) -> u8 {
+pub(crate) fn byte_at(text: &[u8; ROOM], at: usize) -> u8 {
     if at < ROOM { text[at] } else { 0 }
 }
 
-pub fn set_byte(text: &mut [u8; ROOM], at: usize, byte: u8) {
+pub(crate) fn set_byte(text: &mut [u8; ROOM], at: usize, byte: u8) {
     if at < ROOM {
         text[at] = byte;
     }
@@ -22,7 +22,7 @@ fn one_if(test: bool) -> usize
 }
 
 // How many lines a text has; bytes after its last LF belong to none.
-pub fn count_lines(text: &[u8; ROOM], length: usize) -> usize {
+pub(crate) fn count_lines(text: &[u8; ROOM], length: usize) -> usize {
     let mut lines: usize = 0;
     let mut at: usize = 0;
     while at < length {
@@ -33,7 +33,7 @@ pub fn count_lines(text: &[u8; ROOM], length: usize) -> usize {
 }
 
 // Where line `m` begins.
-pub fn line_start(text: &[u8; ROOM], length: usize, m: usize) -> usize
+pub(crate) fn line_start(text: &[u8; ROOM], length: usize, m: usize) -> usize
     ensures { λ r. ⌜ r ≤ length ⌝ }
 {
     let mut left = m;
@@ -49,7 +49,7 @@ pub fn line_start(text: &[u8; ROOM], length: usize, m: usize) -> usize
 }
 
 // The place after the first LF from a place on.
-pub fn line_end(text: &[u8; ROOM], length: usize, from: usize) -> usize
+pub(crate) fn line_end(text: &[u8; ROOM], length: usize, from: usize) -> usize
     ensures { λ r. ⌜ (from ≤ r) × (r ≤ from + (length - from)) ⌝ }
 {
     let mut at = from;
@@ -63,7 +63,7 @@ pub fn line_end(text: &[u8; ROOM], length: usize, from: usize) -> usize
 }
 
 // The first place from one on that has a digit, or the text's end.
-pub fn digit_place(text: &[u8; ROOM], length: usize, from: usize) -> usize {
+pub(crate) fn digit_place(text: &[u8; ROOM], length: usize, from: usize) -> usize {
     let mut at = from;
     while at < length {
         let byte = byte_at(text, at);
@@ -77,7 +77,7 @@ pub fn digit_place(text: &[u8; ROOM], length: usize, from: usize) -> usize {
 }
 
 // The first place from one on that has a space or an LF, or the text's end.
-pub fn word_end(text: &[u8; ROOM], length: usize, from: usize) -> usize {
+pub(crate) fn word_end(text: &[u8; ROOM], length: usize, from: usize) -> usize {
     let mut at = from;
     while at < length {
         let byte = byte_at(text, at);
@@ -95,7 +95,12 @@ fn piece_byte(piece: &[u8; LINE], at: usize) -> u8 {
 }
 
 // The bytes from one place up to another, copied to the front of a piece; how many there are.
-pub fn copy_out(text: &[u8; ROOM], from: usize, end: usize, piece: &mut [u8; LINE]) -> usize {
+pub(crate) fn copy_out(
+    text: &[u8; ROOM],
+    from: usize,
+    end: usize,
+    piece: &mut [u8; LINE],
+) -> usize {
     let mut at = from;
     let mut n: usize = 0;
     while at < end {
@@ -146,7 +151,7 @@ fn close_gap(text: &mut [u8; ROOM], length: usize, start: usize, end: usize) -> 
 }
 
 // The first `n` bytes of a piece, put in at a place; the text's length afterwards.
-pub fn insert(
+pub(crate) fn insert(
     text: &mut [u8; ROOM],
     length: usize,
     start: usize,
@@ -162,7 +167,7 @@ pub fn insert(
 }
 
 // The bytes from one place up to another give way to the first `n` of a piece; the text's length afterwards.
-pub fn splice(
+pub(crate) fn splice(
     text: &mut [u8; ROOM],
     length: usize,
     start: usize,
@@ -177,7 +182,7 @@ pub fn splice(
 }
 
 // LFs added until the text is as long as the goal; its length afterwards.
-pub fn pad(text: &mut [u8; ROOM], length: usize, goal: usize) -> usize {
+pub(crate) fn pad(text: &mut [u8; ROOM], length: usize, goal: usize) -> usize {
     let mut at = length;
     while at < goal {
         set_byte(text, at, b'\n');

@@ -311,7 +311,7 @@ fn damage_lines(
 }
 
 // One damage to a text of which `made` instructions were written; its length afterwards.
-pub fn damage_text(x: &mut u32, text: &mut [u8; ROOM], length: usize, made: u32) -> usize {
+pub(crate) fn damage_text(x: &mut u32, text: &mut [u8; ROOM], length: usize, made: u32) -> usize {
     let length = at_most(length, ROOM);
     let kind = below(x, 20);
     let lines = count_lines(text, length);
