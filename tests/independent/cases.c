@@ -1,8 +1,7 @@
-/* Cases made from a seed, exactly as tests/CASES.md describes them; the names here are that page's. */
+/* Cases made from a seed, and written in the form of tests/CASES.md. Nothing else makes cases. */
 #include "independent.h"
 
 #include <inttypes.h>
-#include <stdarg.h>
 #include <string.h>
 
 static const uint32_t special[32] = {
@@ -55,34 +54,34 @@ static uint32_t word(void)
     return high * 65536 + draw();
 }
 
+/* Each kind of case throws away another number of draws, so that no two begin alike. */
 static void start(uint32_t seed, uint32_t k, int thrown_away)
 {
     x = seed + k * 2654435761u;
     while (thrown_away-- > 0) draw();
 }
 
-uint32_t ind_checksum(const uint32_t *words, size_t len)
+/* Pieces. Small numbers take fewer bytes, so most are small. */
+
+static struct numbers c;
+
+static void begin(uint32_t kind)
 {
-    uint32_t h = 2166136261u;
-    for (size_t i = 0; i < len; i++) h = (h ^ words[i]) * 16777619u;
-    return h;
+    c.kind = kind;
+    c.count = 0;
 }
 
-static uint32_t byte_checksum(const uint8_t *bytes, size_t len)
+static void put_all(const uint32_t *words, size_t count)
 {
-    uint32_t h = 2166136261u;
-    for (size_t i = 0; i < len; i++) h = (h ^ bytes[i]) * 16777619u;
-    return h;
+    for (size_t i = 0; i < count; i++) ind_put(&c, words[i]);
 }
-
-/* Pieces */
 
 static void make_settings(uint32_t settings[8])
 {
     for (int i = 0; i < 2; i++) settings[i] = 1 + below(2);
     for (int i = 2; i < 8; i++) {
         uint32_t t = below(8), v = below(1024);
-        settings[i] = t == 0 ? 0 : t == 1 ? 1023 : v;
+        settings[i] = t < 2 ? 0 : t == 2 ? 1023 : t < 6 ? v % 128 : v;
     }
 }
 
@@ -97,47 +96,20 @@ static void make_insn(uint32_t insn[6])
     if ((op == AND || op == OR) && insn[F_MOD] == 0) insn[F_VB] = 0;
 }
 
-static uint32_t make_lane_word(unsigned slot, uint32_t before, uint32_t c, uint32_t u)
+/* A list: the instructions that are given, which repeat up to its length. */
+struct list {
+    uint32_t word[ROOM_LIST];
+    size_t given, len;
+};
+
+static void make_list(struct list *l, uint32_t count, uint32_t most)
 {
-    if (slot < SLOT_CONFIG) {
-        uint32_t t = below(8), w;
-        switch (t) {
-        case 0: case 1: return special[below(32)];
-        case 2: case 3: return special[slot < 3 ? 16 + below(16) : slot == 3 ? below(16) : below(32)];
-        case 4:         return slot == 0 ? word() : before;
-        case 5:         w = word(); return 0x3E000000 + w % 0x03000000 + (w & 0x80000000);
-        default:        return word();
-        }
-    }
-    if (slot == SLOT_CONFIG) {
-        uint32_t a = draw(), b = draw(), e = below(4);
-        uint32_t v = c == 0 ? 0 : c == 1 ? (a & b) : c == 2 ? (a | b) : a;
-        return v + 65536 * e;
-    }
-    if (slot == SLOT_FLAG) return below(4) != 0;
-    if (slot == SLOT_USE) return below(8) < u;
-    if (slot == SLOT_MISC) return below(4096);
-    return word();
+    l->given = count < most ? count : most;
+    l->len = 6 * (size_t)count;
+    for (size_t i = 0; i < l->given; i++) make_insn(l->word + 6 * i);
 }
 
-static uint16_t make_cell(void)
-{
-    uint32_t d = draw();
-    return x / 8192 % 8 == 0 ? cells[d % 16] : (uint16_t)d;
-}
-
-/* Damage. Each also says what it did, for `show`. */
-
-static char damage_note[256];
-
-static void note(const char *format, ...)
-{
-    size_t at = strlen(damage_note);
-    va_list list;
-    va_start(list, format);
-    vsnprintf(damage_note + at, sizeof damage_note - at, format, list);
-    va_end(list);
-}
+/* Damage */
 
 static uint32_t out_of(uint32_t limit, uint32_t v, uint32_t d) { return v == 1 ? limit + d : v == 2 ? 4294967295u : limit; }
 
@@ -145,28 +117,22 @@ static void damage_setting(uint32_t settings[8])
 {
     uint32_t i = below(8), v = below(4), w = word(), high = i < 2 ? 3 : 1024;
     settings[i] = v == 0 ? high : v == 1 ? high + w % 65536 : v == 2 ? w : 0;
-    note(" setting %" PRIu32 " is %" PRIu32 ";", i, settings[i]);
 }
 
-static void damage_list_length(size_t *list_len)
+static void damage_length(struct list *l)
 {
     uint32_t e = 1 + below(5), t = below(2);
-    if (t == 1 && *list_len >= 6) *list_len -= e;
-    else *list_len += e;
-    note(" list of %zu words;", *list_len);
+    if (t == 1 && l->len >= 6) l->len -= e;
+    else l->len += e;
 }
 
-static void damage_too_many(uint32_t *list, size_t count, size_t *list_len)
+static void damage_too_many(struct list *l)
 {
     uint32_t e = below(12);
-    for (size_t i = count; i <= 1024; i++) {
-        memset(list + 6 * i, 0, 6 * sizeof *list);
-        list[6 * i] = NOP;
-    }
-    *list_len = e < 6 ? 6150 + e : 6150;
-    note(" list of %zu words;", *list_len);
+    l->len = e < 6 ? 6150 + e : 6150;
 }
 
+/* An instruction among `count`. */
 static void damage_insn(uint32_t *list, size_t count)
 {
     if (count == 0) return;
@@ -196,19 +162,6 @@ static void damage_insn(uint32_t *list, size_t count)
         insn[F_VD] = below(16);
         insn[F_MOD] = refused_mods[below(4)];
     }
-    note(" instruction %" PRIu32 ";", place);
-}
-
-/* The word to damage is chosen by the caller, who knows whether it is an image or two lanes. */
-static uint32_t damage_form(unsigned *slot, uint32_t *lane)
-{
-    static const unsigned slots[4] = { SLOT_CONFIG, SLOT_FLAG, SLOT_USE, SLOT_MISC };
-    static const uint32_t limit[4] = { 262144, 2, 2, 4096 };
-    uint32_t way = below(4);
-    *lane = below(32);
-    uint32_t v = below(3), d = draw();
-    *slot = slots[way];
-    return out_of(limit[way], v, d);
 }
 
 static int damages(void)
@@ -217,270 +170,434 @@ static int damages(void)
     return t < 1 ? 1 : t < 4 ? 2 : 0;
 }
 
-/* Run cases */
+/* Images: a seed, and rows of lanes that get a word. */
 
-void ind_make_run(uint32_t seed, uint32_t k, struct run_case *c)
+struct image {
+    uint32_t seed, changes, change[8][3];
+};
+
+static void change(struct image *i, uint32_t slot, uint32_t lanes, uint32_t w)
 {
-    memset(c, 0, sizeof *c);
-    damage_note[0] = 0;
-    start(seed, k, 4);
+    uint32_t *row = i->change[i->changes++];
+    row[0] = slot;
+    row[1] = lanes;
+    row[2] = w;
+}
 
+static uint32_t some_lanes(void)
+{
+    uint32_t t = below(4);
+    return t == 0 ? 0xFFFFFFFF : t == 1 ? 0x7Fu << below(8) : t == 2 ? 1u << below(32) : below(16384);
+}
+
+static void make_image(struct image *i)
+{
+    i->seed = below(16384);
+    i->changes = 0;
+    uint32_t configs = below(8), uses = below(4), same = below(16);
+    if (configs < 3) change(i, SLOT_CONFIG, 0xFFFFFFFF, 0);
+    else if (configs < 6) change(i, SLOT_CONFIG, 0xFFFFFFFF, 1u << below(18));
+    if (uses == 0) change(i, SLOT_USE, 0xFFFFFFFF, 0);
+    else if (uses == 1) change(i, SLOT_USE, some_lanes(), below(2));
+    if (same < 2) {
+        /* Two registers alike, for the ties of SWAP. */
+        uint32_t lanes = some_lanes(), w = special[below(32)], first = below(8);
+        change(i, first, lanes, w);
+        change(i, (first + 1 + below(7)) % 8, lanes, w);
+    }
+}
+
+static void damage_image(struct image *i)
+{
+    static const uint32_t slots[4] = { SLOT_CONFIG, SLOT_FLAG, SLOT_USE, SLOT_MISC };
+    static const uint32_t limit[4] = { 262144, 2, 2, 4096 };
+    uint32_t way = below(4), lane = below(32), v = below(3), d = draw();
+    change(i, slots[way], 1u << lane, out_of(limit[way], v, d));
+}
+
+static void put_image(const struct image *i)
+{
+    ind_put(&c, i->seed);
+    ind_put(&c, i->changes);
+    put_all(i->change[0], 3 * (size_t)i->changes);
+}
+
+/* Runs */
+
+static uint32_t run_count(void)
+{
     uint32_t t = below(64);
-    if (t == 0) c->count = 0;
-    else if (t == 1) c->count = 1;
-    else if (t == 2) c->count = 1024;
-    else if (t == 3) c->count = below(1025);
-    else if (t < 24) c->count = 1 + below(8);
-    else c->count = 1 + below(40);
-    c->list_len = 6 * c->count;
-    make_settings(c->settings);
-    for (size_t i = 0; i < c->count; i++) make_insn(c->list + 6 * i);
+    if (t < 2) return t;
+    if (t == 2) return 1024;
+    if (t == 3) return below(1025);
+    return 1 + below(t < 24 ? 8 : 40);
+}
 
-    uint32_t config_mode = below(4), use_mode = below(4);
-    for (unsigned i = 0; i < IMAGE_WORDS; i++)
-        c->image[i] = make_lane_word(i / LANES, i < LANES ? 0 : c->image[i - LANES], config_mode, use_mode);
-    c->image_len = IMAGE_WORDS;
-    for (unsigned i = 0; i < DST_CELLS; i++) c->dst[i] = make_cell();
-    c->dst_len = DST_CELLS;
-
+static void make_run(void)
+{
+    uint32_t settings[8], image_len = IMAGE_WORDS, dst_len = DST_CELLS, t, v;
+    static struct list list;
+    struct image image;
+    uint32_t count = run_count();
+    make_settings(settings);
+    make_list(&list, count, 1 + below(6));
+    make_image(&image);
     for (int n = damages(); n > 0; n--) {
-        uint32_t kind = below(10), v, lane;
-        unsigned slot;
-        switch (kind) {
+        switch (below(10)) {
         case 0:
             t = below(4), v = below(1025);
-            c->image_len = t == 0 ? 767 : t == 1 ? 769 : t == 2 ? 0 : v;
-            note(" image of %zu words;", c->image_len);
+            image_len = t == 0 ? 767 : t == 1 ? 769 : t == 2 ? 0 : v;
             break;
         case 1:
             t = below(4), v = below(16401);
-            c->dst_len = t == 0 ? 16383 : t == 1 ? 16385 : t == 2 ? 0 : v;
-            note(" Dst of %zu cells;", c->dst_len);
+            dst_len = t == 0 ? 16383 : t == 1 ? 16385 : t == 2 ? 0 : v;
             break;
-        case 2: damage_setting(c->settings); break;
-        case 3: damage_list_length(&c->list_len); break;
-        case 4: damage_too_many(c->list, c->count, &c->list_len); break;
-        case 5:
-            v = damage_form(&slot, &lane);
-            c->image[LANES * slot + lane] = v;
-            note(" image word %u is %" PRIu32 ";", (unsigned)(LANES * slot + lane), v);
-            break;
-        default: damage_insn(c->list, c->count);
+        case 2: damage_setting(settings); break;
+        case 3: damage_length(&list); break;
+        case 4: damage_too_many(&list); break;
+        case 5: damage_image(&image); break;
+        default: damage_insn(list.word, list.given);
         }
     }
-    memcpy(c->damage, damage_note, sizeof c->damage);
+    begin(RUN_CASE);
+    put_all(settings, 8);
+    ind_put(&c, image_len);
+    ind_put(&c, dst_len);
+    ind_put(&c, (uint32_t)list.len);
+    put_image(&image);
+    put_all(list.word, 6 * list.given);
 }
 
-/* Lane cases */
+/* Lanes */
 
-void ind_make_lane(uint32_t seed, uint32_t k, struct lane_case *c)
+static uint32_t cell(void)
 {
-    damage_note[0] = 0;
-    start(seed, k, 8);
-    make_settings(c->settings);
-    c->lane = below(32);
-    make_insn(c->insn);
-    uint32_t *const both[2] = { c->own, c->head };
-    for (int i = 0; i < 2; i++) {
-        uint32_t config_mode = below(4), use_mode = below(4);
-        for (unsigned s = 0; s < SLOTS; s++) both[i][s] = make_lane_word(s, s == 0 ? 0 : both[i][s - 1], config_mode, use_mode);
-    }
-    uint32_t h = below(2);
-    if (h == 0 && c->lane < 8) memcpy(c->head, c->own, sizeof c->head);
-    c->even = make_cell();
-    c->odd = make_cell();
-
-    for (int n = damages(); n > 0; n--) {
-        uint32_t kind = below(8), v, d, lane;
-        unsigned slot;
-        switch (kind) {
-        case 0: damage_setting(c->settings); break;
-        case 1:
-            v = below(2), d = draw();
-            c->lane = v == 0 ? 32 : 32 + d;
-            break;
-        case 2:
-            v = damage_form(&slot, &lane);
-            both[lane < 16 ? 0 : 1][slot] = v;
-            break;
-        default: damage_insn(c->insn, 1);
-        }
-    }
+    uint32_t d = draw();
+    return below(4) == 0 ? cells[d % 16] : d;
 }
 
-/* Listing cases */
+/* The settings that a lane's instruction can see: edition and srcb. */
+static void make_lane_settings(uint32_t settings[8])
+{
+    memset(settings, 0, 8 * sizeof *settings);
+    for (int i = 0; i < 2; i++) settings[i] = 1 + below(2);
+    if (below(8) == 0) settings[2 + below(6)] = below(1024);
+}
 
-static size_t find_line(const struct listing_case *c, uint32_t m)
+/* Every op, and an unknown one, with every mod up to 16, refused in turn: by its mod or, where that is allowed, by a field. */
+static void make_refused(uint32_t insn[6], uint32_t j)
+{
+    make_insn(insn);
+    insn[F_OP] = 1 + j % 16;
+    insn[F_MOD] = j / 16 % 17;
+    if (ind_insn_fault(insn) != 0) return;
+    uint32_t f = below(4);
+    insn[F_IMM + f] = limits[insn[F_OP]][f] + (below(2) == 0 ? 0 : draw());
+}
+
+static void make_lane(uint32_t k)
+{
+    uint32_t settings[8], insn[6], lane = below(32), head = below(2) == 0 ? lane % 8 : below(32);
+    struct image image;
+    make_lane_settings(settings);
+    if (k % 5 == 0) make_refused(insn, k / 5);
+    else make_insn(insn);
+    make_image(&image);
+    for (int n = k % 5 == 0 ? 0 : damages(); n > 0; n--) {
+        switch (below(8)) {
+        case 0: damage_setting(settings); break;
+        case 1: lane = 32 + (below(2) == 0 ? 0 : draw()); break;
+        case 2:
+            damage_image(&image);
+            image.change[image.changes - 1][1] = 1u << (below(2) == 0 ? lane : head) % 32;
+            break;
+        default: damage_insn(insn, 1);
+        }
+    }
+    begin(LANE_CASE);
+    put_all(settings, 8);
+    ind_put(&c, lane);
+    ind_put(&c, head);
+    ind_put(&c, cell());
+    ind_put(&c, cell());
+    put_all(insn, 6);
+    put_image(&image);
+}
+
+/* Writings */
+
+static size_t bytes_needed(const struct list *l)
+{
+    size_t needed = 104;
+    for (size_t i = 0; i < l->len / 6; i++) {
+        uint32_t op = l->given > 0 ? l->word[6 * (i % l->given)] : 0;
+        needed += 39 + (op >= LOAD && op <= NOP ? strlen(ind_names[op]) : 3);
+    }
+    return needed;
+}
+
+static void make_writing(void)
+{
+    uint32_t settings[8], t = below(32), r, v;
+    static struct list list;
+    make_settings(settings);
+    make_list(&list, t == 0 ? 1024 : t == 1 ? 0 : 1 + below(20), 1 + below(6));
+    if (below(2) == 0) {
+        uint32_t kind = below(8);
+        if (kind < 2) damage_setting(settings);
+        else if (kind == 2) damage_length(&list);
+        else if (kind == 3) damage_too_many(&list);
+        else damage_insn(list.word, list.given);
+    }
+    r = below(16), v = below(64);
+    size_t needed = bytes_needed(&list);
+    begin(WRITING_CASE);
+    put_all(settings, 8);
+    ind_put(&c, (uint32_t)list.len);
+    ind_put(&c, (uint32_t)(r < 2 ? needed - 1 : r < 4 ? needed : r == 4 ? v : needed + v));
+    put_all(list.word, 6 * list.given);
+}
+
+/* Readings: a text is kept, and each reading is of that text with damage. */
+
+struct text {
+    uint8_t byte[ROOM_TEXT];
+    size_t len, count;              /* count: instructions that it had before any damage */
+};
+
+static struct text base;
+
+static void make_base(void)
+{
+    uint32_t settings[8], outcome[5];
+    static struct list list;
+    base.count = below(8) == 0 ? 0 : 1 + below(6);
+    make_settings(settings);
+    make_list(&list, (uint32_t)base.count, 6);
+    ind_write(settings, list.word, list.len, base.byte, ROOM_TEXT, outcome);
+    base.len = outcome[O_LENGTH];
+    begin(TEXT_CASE);
+    for (size_t i = 0; i < base.len; i++) ind_put(&c, base.byte[i]);
+}
+
+static size_t find_line(const struct text *t, uint32_t m)
 {
     size_t at = 0;
-    while (m > 0) m -= c->text[at++] == 10;
+    while (m > 0) m -= t->byte[at++] == 10;
     return at;
 }
 
-static size_t line_end(const struct listing_case *c, size_t at)
+static size_t line_end(const struct text *t, size_t at)
 {
-    while (c->text[at] != 10) at++;
+    while (t->byte[at] != 10) at++;
     return at + 1;
 }
 
 /* The bytes from a up to b give way to the piece. */
-static void splice(struct listing_case *c, size_t a, size_t b, const void *piece, size_t len)
+static void splice(struct text *t, size_t a, size_t b, const void *piece, size_t len)
 {
-    memmove(c->text + a + len, c->text + b, c->text_len - b);
-    memcpy(c->text + a, piece, len);
-    c->text_len = c->text_len - (b - a) + len;
+    memmove(t->byte + a + len, t->byte + b, t->len - b);
+    memcpy(t->byte + a, piece, len);
+    t->len = t->len - (b - a) + len;
 }
 
-static void damage_text(struct listing_case *c)
+static void damage_text(struct text *t)
 {
     uint32_t kind = below(20), lines = 0, v, w;
-    for (size_t i = 0; i < c->text_len; i++) lines += c->text[i] == 10;
+    for (size_t i = 0; i < t->len; i++) lines += t->byte[i] == 10;
     if (lines == 0) return;
 
     uint32_t h = below(2), m = h == 0 ? below(lines < 9 ? lines : 9) : below(lines);
-    size_t a = find_line(c, m), b = line_end(c, a), p = a + below((uint32_t)(b - a));
+    size_t a = find_line(t, m), b = line_end(t, a), p = a + below((uint32_t)(b - a));
     uint8_t copy[128], copy2[128];
-    memcpy(copy, c->text + a, b - a);
+    memcpy(copy, t->byte + a, b - a);
 
     switch (kind) {
-    case 0: c->text[p] = (uint8_t)below(256); break;
-    case 1: c->text[p] = likely[below(16)]; break;
-    case 2: c->text_len = p; break;
-    case 3: c->text_len = find_line(c, lines) - 1; break;
-    case 4: c->text[c->text_len++] = likely[below(16)]; break;
-    case 5: splice(c, c->text_len, c->text_len, copy, b - a); break;
-    case 6: splice(c, b - 1, b - 1, "\r", 1); break;
+    case 0: t->byte[p] = (uint8_t)below(256); break;
+    case 1: t->byte[p] = likely[below(16)]; break;
+    case 2: t->len = p; break;
+    case 3: t->len = find_line(t, lines) - 1; break;
+    case 4: t->byte[t->len++] = likely[below(16)]; break;
+    case 5: splice(t, t->len, t->len, copy, b - a); break;
+    case 6: splice(t, b - 1, b - 1, "\r", 1); break;
     case 7: case 8: case 9:
         v = below(12);
-        while (p < c->text_len && (c->text[p] < 48 || c->text[p] > 57)) p++;
-        if (p < c->text_len) c->text[p] = (uint8_t)(v == 11 ? 47 : 48 + v);
+        while (p < t->len && (t->byte[p] < 48 || t->byte[p] > 57)) p++;
+        if (p < t->len) t->byte[p] = (uint8_t)(v == 11 ? 47 : 48 + v);
         break;
     case 10: case 11:
         v = below(4), w = below(10000);
-        w = v == 0 ? (uint32_t)c->count + 1 : v == 1 ? (c->count > 0 ? (uint32_t)c->count - 1 : 9999) : v == 2 ? 1025 : w;
+        w = v == 0 ? (uint32_t)t->count + 1 : v == 1 ? (t->count > 0 ? (uint32_t)t->count - 1 : 9999) : v == 2 ? 1025 : w;
         if (lines < 9) break;
-        a = find_line(c, 8);
-        if (line_end(c, a) - a != 11) break;
-        for (size_t i = 9; i >= 6; i--, w /= 10) c->text[a + i] = (uint8_t)(48 + w % 10);
+        a = find_line(t, 8);
+        if (line_end(t, a) - a != 11) break;
+        for (size_t i = 9; i >= 6; i--, w /= 10) t->byte[a + i] = (uint8_t)(48 + w % 10);
         break;
     case 12: case 13: {
         v = below(20);
         if (lines <= 9) break;
         const char *name = v < 15 ? ind_names[v + 1] : odd_names[v - 15];
-        a = find_line(c, 9 + below(lines - 9));
-        if (line_end(c, a) - a < 4 || memcmp(c->text + a, "op=", 3) != 0) break;
-        for (b = a + 3; c->text[b] != 32 && c->text[b] != 10;) b++;
-        splice(c, a + 3, b, name, strlen(name));
+        a = find_line(t, 9 + below(lines - 9));
+        if (line_end(t, a) - a < 4 || memcmp(t->byte + a, "op=", 3) != 0) break;
+        for (b = a + 3; t->byte[b] != 32 && t->byte[b] != 10;) b++;
+        splice(t, a + 3, b, name, strlen(name));
         break;
     }
     case 14: {
         /* The later line first, so that the place of the earlier one stands. */
         uint32_t o = below(lines);
-        size_t oa = find_line(c, o), ob = line_end(c, oa);
-        memcpy(copy2, c->text + oa, ob - oa);
+        size_t oa = find_line(t, o), ob = line_end(t, oa);
+        memcpy(copy2, t->byte + oa, ob - oa);
         if (o > m) {
-            splice(c, oa, ob, copy, b - a);
-            splice(c, a, b, copy2, ob - oa);
+            splice(t, oa, ob, copy, b - a);
+            splice(t, a, b, copy2, ob - oa);
         } else if (o < m) {
-            splice(c, a, b, copy2, ob - oa);
-            splice(c, oa, ob, copy, b - a);
+            splice(t, a, b, copy2, ob - oa);
+            splice(t, oa, ob, copy, b - a);
         }
         break;
     }
-    case 15: splice(c, b, b, copy, b - a); break;
-    case 16: splice(c, a, b, "", 0); break;
+    case 15: splice(t, b, b, copy, b - a); break;
+    case 16: splice(t, a, b, "", 0); break;
     case 17:
         v = below(4), w = below(32);
         w = v == 0 ? 65536 : v == 1 ? 65537 : 65537 + w;
-        while (c->text_len < w) c->text[c->text_len++] = 10;
+        while (t->len < w) t->byte[t->len++] = 10;
         break;
     default:
         if (lines <= 9) break;
-        a = find_line(c, 9 + below(lines - 9));
+        a = find_line(t, 9 + below(lines - 9));
         v = refused_mods[below(4)];
         snprintf((char *)copy, sizeof copy, "op=LOAD imm=00000 vb=00 vc=00 vd=00 mod=%02" PRIu32 "\n", v);
-        splice(c, a, line_end(c, a), copy, strlen((char *)copy));
+        splice(t, a, line_end(t, a), copy, strlen((char *)copy));
     }
 }
 
-void ind_do_listing(uint32_t seed, uint32_t k, struct listing_case *c)
+/* The first instruction's line over and over, 1,024 times. */
+static void lengthen(struct text *t)
 {
-    static uint8_t again[ROOM_TEXT];
-    uint32_t outcome[5];
+    size_t a = find_line(t, 9), b = line_end(t, a), len = b - a;
+    for (int i = 1; i < 1024; i++) memcpy(t->byte + a + (size_t)i * len, t->byte + a, len);
+    t->len = a + 1024 * len;
+    t->count = 1024;
+    memcpy(t->byte + find_line(t, 8) + 6, "1024", 4);
+}
 
-    memset(c, 0, sizeof *c);
-    damage_note[0] = 0;
-    start(seed, k, 12);
-    uint32_t t = below(64);
-    c->count = t == 0 ? 1024 : t == 1 ? 0 : below(61);
-    c->list_len = 6 * c->count;
-    make_settings(c->settings);
-    for (size_t i = 0; i < c->count; i++) make_insn(c->list + 6 * i);
-    if (below(8) == 0) {
-        uint32_t kind = below(8);
-        if (kind < 2) damage_setting(c->settings);
-        else if (kind == 2) damage_list_length(&c->list_len);
-        else if (kind == 3) damage_too_many(c->list, c->count, &c->list_len);
-        else damage_insn(c->list, c->count);
+/* The pieces that make one text of another. A line that comes anew three times or more is said once. */
+
+static size_t pieces_at;
+
+static void piece(size_t copied, size_t passed, const uint8_t *bytes, size_t count, size_t times)
+{
+    c.word[pieces_at]++;
+    ind_put(&c, (uint32_t)copied);
+    ind_put(&c, (uint32_t)passed);
+    ind_put(&c, (uint32_t)count);
+    ind_put(&c, (uint32_t)times);
+    for (size_t i = 0; i < count; i++) ind_put(&c, bytes[i]);
+}
+
+static size_t repeats(const uint8_t *bytes, size_t len, size_t period)
+{
+    size_t n = 1;
+    while ((n + 1) * period <= len && memcmp(bytes, bytes + n * period, period) == 0) n++;
+    return n;
+}
+
+static void put_new(size_t copied, size_t passed, const uint8_t *bytes, size_t len)
+{
+    size_t plain = 0;
+    for (size_t at = 0; at < len;) {
+        const uint8_t *lf = memchr(bytes + at, 10, len - at);
+        size_t line = lf == NULL ? len - at : (size_t)(lf - bytes) - at + 1, times = repeats(bytes + at, len - at, line);
+        if (times >= 3) {
+            if (at > plain) {
+                piece(copied, passed, bytes + plain, at - plain, 1);
+                copied = passed = 0;
+            }
+            piece(copied, passed, bytes + at, line, times);
+            copied = passed = 0;
+            plain = at + times * line;
+        }
+        at += times >= 3 ? times * line : line;
     }
+    if (len > plain || copied + passed > 0) piece(copied, passed, bytes + plain, len - plain, 1);
+}
 
-    uint32_t r = below(16), v = below(64);
-    size_t needed = 104;
-    for (size_t i = 0; i < c->list_len / 6; i++) {
-        uint32_t op = c->list[6 * i];
-        needed += 39 + (op >= LOAD && op <= NOP ? strlen(ind_names[op]) : 3);
-    }
-    c->write_room = r == 0 ? needed - 1 : r == 1 ? needed : r == 2 ? v : needed + v;
-    memset(c->text, 165, c->write_room);
-    ind_write(c->settings, c->list, c->list_len, c->text, c->write_room, c->wrote);
-    c->write_sum = byte_checksum(c->text, c->write_room);
+enum { ALIKE = 12 };
 
-    c->text_len = c->wrote[O_LENGTH];
-    t = below(8);
-    for (int n = t < 2 ? 0 : t < 5 ? 1 : 2; n > 0; n--) damage_text(c);
+/* How far on in the two the next ALIKE bytes are the same. */
+static bool meet(const uint8_t *a, size_t a_len, const uint8_t *b, size_t b_len, size_t *i, size_t *j)
+{
+    for (size_t sum = 1; sum < 400; sum++)
+        for (*i = 0; *i <= sum; ++*i) {
+            *j = sum - *i;
+            if (*i + ALIKE <= a_len && *j + ALIKE <= b_len && memcmp(a + *i, b + *j, ALIKE) == 0) return true;
+        }
+    return false;
+}
 
-    r = below(16), v = below(32);
-    c->read_room = r == 2 ? v : r == 0 && c->count > 0 ? 6 * c->count - 1 : r == 1 ? 6 * c->count : 6 * c->count + v;
-    for (size_t i = 0; i < c->read_room; i++) c->read_list[i] = 2779096485u;
-    ind_read(c->text, c->text_len, c->read_list, c->read_room, c->read_settings, c->read);
-    c->read_sum = ind_checksum(c->read_list, c->read_room);
-
-    if (c->read[O_ANSWER] == 0) {
-        memset(again, 165, c->text_len);
-        ind_write(c->read_settings, c->read_list, c->read[O_LENGTH], again, c->text_len, outcome);
-        c->again_sum = byte_checksum(again, c->text_len);
+static void put_text(const struct text *t)
+{
+    size_t from = 0, to = 0, copied = 0, passed, fresh;
+    pieces_at = c.count;
+    ind_put(&c, 0);
+    while (from < base.len || to < t->len) {
+        if (from < base.len && to < t->len && base.byte[from] == t->byte[to]) {
+            from++, to++, copied++;
+            continue;
+        }
+        if (!meet(base.byte + from, base.len - from, t->byte + to, t->len - to, &passed, &fresh)) passed = base.len - from, fresh = t->len - to;
+        put_new(copied, passed, t->byte + to, fresh);
+        from += passed, to += fresh, copied = 0;
     }
 }
 
-/* The lines */
+static void make_reading(void)
+{
+    static struct text t;
+    t = base;
+    if (t.count > 0 && below(48) == 0) lengthen(&t);
+    size_t words = 6 * t.count;
+    uint32_t n = below(8), r, v;
+    for (n = n < 2 ? 0 : n < 5 ? 1 : 2; n > 0; n--) damage_text(&t);
+    r = below(16), v = below(16);
+    begin(READING_CASE);
+    ind_put(&c, (uint32_t)(r == 2 ? v : r == 0 && words > 0 ? words - 1 : r == 1 ? words : words + v));
+    put_text(&t);
+}
+
+/* All of them. */
+
+static void make_table(void)
+{
+    begin(TABLE_CASE);
+    put_all(special, 32);
+    for (int i = 0; i < 16; i++) ind_put(&c, cells[i]);
+}
 
 void ind_cases(uint32_t seed, uint32_t runs, uint32_t lanes, uint32_t listings, FILE *out)
 {
-    static struct run_case run;
-    static struct lane_case lane;
-    static struct listing_case listing;
-    uint32_t o[4];
-
+    make_table();
+    ind_emit(&c, out);
     for (uint32_t k = 0; k < runs; k++) {
-        ind_make_run(seed, k, &run);
-        ind_run(run.settings, run.image, run.image_len, run.dst, run.dst_len, run.list, run.list_len, o);
-        fprintf(out, "run %" PRIu32 " %" PRIu32 " %" PRIu32 " %" PRIu32 " %" PRIu32 " %08" PRIX32 "\n", k, o[0], o[1], o[2], o[3],
-                ind_checksum(run.image, run.image_len));
+        start(seed, k, 4);
+        make_run();
+        ind_emit(&c, out);
     }
     for (uint32_t k = 0; k < lanes; k++) {
-        ind_make_lane(seed, k, &lane);
-        uint32_t answer = ind_lane(lane.settings, lane.lane, lane.insn, lane.own, lane.head, lane.even, lane.odd);
-        fprintf(out, "lane %" PRIu32 " %" PRIu32 " %08" PRIX32 "\n", k, answer, ind_checksum(lane.own, SLOTS));
+        start(seed, k, 8);
+        make_lane(k);
+        ind_emit(&c, out);
     }
     for (uint32_t k = 0; k < listings; k++) {
-        ind_do_listing(seed, k, &listing);
-        fprintf(out, "listing %" PRIu32, k);
-        for (int i = 0; i < 5; i++) fprintf(out, " %" PRIu32, listing.wrote[i]);
-        fprintf(out, " %08" PRIX32, listing.write_sum);
-        for (int i = 0; i < 5; i++) fprintf(out, " %" PRIu32, listing.read[i]);
-        for (int i = 0; i < 8; i++) fprintf(out, " %" PRIu32, listing.read_settings[i]);
-        fprintf(out, " %08" PRIX32, listing.read_sum);
-        if (listing.read[O_ANSWER] == 0) fprintf(out, " %08" PRIX32 "\n", listing.again_sum);
-        else fprintf(out, " -\n");
+        start(seed, k, 12);
+        if (k % 25 == 0) {
+            make_base();
+            ind_emit(&c, out);
+        }
+        if (k % 5 == 4) make_writing();
+        else make_reading();
+        ind_emit(&c, out);
     }
 }

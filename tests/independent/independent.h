@@ -3,8 +3,10 @@
  *   checks.c    what is refused, and in which order
  *   machine.c   the functional models of documents 000 to 004, an instruction at a time
  *   listing.c   listings read and written, and the report
- *   cases.c     cases made from a seed, as tests/CASES.md describes
- *   coverage.c  what a set of cases met
+ *   form.c      cases as bytes, both ways, in the form of tests/CASES.md
+ *   cases.c     cases made from a seed
+ *   answers.c   cases read, run and answered
+ *   coverage.c  what a set of cases meets
  *   selftest.c  document 01's examples
  *   main.c      the commands
  */
@@ -48,14 +50,30 @@ uint32_t ind_read(const uint8_t *text, size_t text_len, uint32_t *list, size_t l
 uint32_t ind_write(const uint32_t settings[8], const uint32_t *list, size_t list_len, uint8_t *text, size_t text_len, uint32_t outcome[5]);
 void ind_replay(FILE *in, FILE *out);
 
-/* cases.c: the largest sizes a case can have are in tests/CASES.md. */
-enum { ROOM_IMAGE = 1024, ROOM_DST = 16400, ROOM_LIST = 6200, ROOM_TEXT = 65700 };
+/* form.c: a case is a kind and its numbers; the largest sizes are in tests/CASES.md. */
+enum { TABLE_CASE, RUN_CASE, LANE_CASE, WRITING_CASE, TEXT_CASE, READING_CASE };
+enum { ROOM_CASE = 70000, ROOM_IMAGE = 1024, ROOM_DST = 16400, ROOM_LIST = 6160, ROOM_TEXT = 65700 };
+
+struct numbers {
+    uint32_t kind, word[ROOM_CASE];
+    size_t count;
+};
+
+void ind_put(struct numbers *c, uint32_t n);
+void ind_emit(const struct numbers *c, FILE *out);
+enum next { NO_CASE, A_CASE, CUT_OFF };
+enum next ind_next(FILE *in, struct numbers *c);
+
+/* cases.c */
+void ind_cases(uint32_t seed, uint32_t runs, uint32_t lanes, uint32_t listings, FILE *out);
+
+/* answers.c: what a case's numbers say, and what is answered. */
+#define NOTHING 2166136261u     /* the checksum of nothing */
 
 struct run_case {
     uint32_t settings[8], list[ROOM_LIST], image[ROOM_IMAGE];
     uint16_t dst[ROOM_DST];
-    size_t count, list_len, image_len, dst_len;     /* count: instructions made, before any damage to list_len */
-    char damage[256];                               /* for people, never printed by `cases` */
+    size_t list_len, image_len, dst_len;
 };
 
 struct lane_case {
@@ -63,25 +81,26 @@ struct lane_case {
     uint16_t even, odd;
 };
 
-struct listing_case {
+struct writing_case {
     uint32_t settings[8], list[ROOM_LIST];
-    size_t count, list_len;
-    size_t write_room, read_room;
-    uint32_t wrote[5], write_sum;                   /* the writer's outcome and its room afterwards */
-    uint8_t text[ROOM_TEXT];
-    size_t text_len;                                /* the text after its damage */
-    uint32_t read[5], read_settings[8], read_list[ROOM_LIST], read_sum;
-    uint32_t again_sum;                             /* what was read, written again; only where read[0] is 0 */
+    size_t list_len, room;
 };
 
-void ind_make_run(uint32_t seed, uint32_t k, struct run_case *c);
-void ind_make_lane(uint32_t seed, uint32_t k, struct lane_case *c);
-void ind_do_listing(uint32_t seed, uint32_t k, struct listing_case *c);
-uint32_t ind_checksum(const uint32_t *words, size_t len);
-void ind_cases(uint32_t seed, uint32_t runs, uint32_t lanes, uint32_t listings, FILE *out);
+struct reading_case {
+    uint8_t text[ROOM_TEXT];
+    size_t text_len, room;
+};
+
+void ind_make_run(const struct numbers *c, struct run_case *r);
+void ind_make_lane(const struct numbers *c, struct lane_case *l);
+void ind_make_writing(const struct numbers *c, struct writing_case *w);
+void ind_make_reading(const struct numbers *c, struct reading_case *r);
+bool ind_keep(const struct numbers *c);                 /* whether the case is one that is kept for those after it */
+void ind_answers(FILE *in, FILE *out);
+bool ind_show(FILE *in, uint32_t line, FILE *out);      /* the case of that line of the answers, from 1 */
 
 /* coverage.c, selftest.c */
-void ind_coverage(uint32_t seed, uint32_t runs, uint32_t lanes, uint32_t listings, FILE *out);
+void ind_coverage(FILE *in, FILE *out);
 int ind_selftest(void);
 
 #endif

@@ -136,6 +136,25 @@ static void tempting(void)
     CHECK(act(LUT, 0, 0, 0, 12, 8) == 0 && own[2] == 0xBF800000);
 }
 
+/* The whole word of a register that is not stored, copied out by OR. */
+static uint32_t copied(uint32_t reg, uint32_t in_lane)
+{
+    fresh();
+    lane = in_lane;
+    CHECK(act(OR, 0, reg, reg, 0, 1) == 0);
+    return own[0];
+}
+
+static void constants(void)
+{
+    for (uint32_t l = 0; l < LANES; l++) {
+        CHECK(copied(8, l) == 0x3F566189);
+        CHECK(copied(9, l) == 0);
+        CHECK(copied(10, l) == 0x3F800000);
+        CHECK(copied(15, l) == 2 * l);
+    }
+}
+
 static void more_lut(void)
 {
     CHECK(lut(0x80000001, 0x80FF, 0) == 0);                 /* a denormal counts as 0; -0 plus +0 is +0 */
@@ -407,6 +426,7 @@ static void listings(void)
 int ind_selftest(void)
 {
     the_twelve();
+    constants();
     order();
     tempting();
     more_lut();

@@ -1,33 +1,31 @@
-// Cases from a seed, as tests/CASES.md describes: each is made, run by the proved code, and printed as one line, which the independent
-// program must print too.
+// Cases on standard input, in the form of tests/CASES.md: each is run by the proved code, and its answer printed as one line. Cases are made
+// by the independent program alone.
 
-// The generator.
-mod draw;
-// The tables of tests/CASES.md.
-mod tables;
-// Settings, instructions, lane words and cells.
-mod pieces;
-// The list of a case.
-mod list;
-// Damage that the kinds of case share.
-mod damage;
+// A case's numbers, out of its bytes.
+mod form;
+// Images, Dsts and lists, out of a case's numbers.
+mod made;
 // The lines and the checksums in them.
 mod lines;
-// Run cases.
+// A list over an image and a Dst.
 mod run_case;
-// Lane cases.
+// One instruction in one lane.
 mod lane_case;
-// A text in its room.
-mod text;
-// Damage to a text.
-mod text_damage;
-// Listing cases.
-mod listing_case;
+// A list written as a listing.
+mod writing_case;
+// A listing read, and written again.
+mod reading_case;
 
-use draw::wide;
+use form::BODY;
+use form::CASE;
+use form::head;
+use form::numbers;
 use lane_case::lane_case;
-use listing_case::listing_case;
+use libc::STDIN_FILENO;
+use libc::STDOUT_FILENO;
+use reading_case::reading_case;
 use run_case::run_case;
+use writing_case::writing_case;
 ghost use Prim.Native.Nat.{_≤_};
 
 // How much of a room is lent: never more than it has.
@@ -37,77 +35,63 @@ fn at_most(length: usize, most: usize) -> usize
     if length < most { length } else { most }
 }
 
-// A number of the input, and where the next one begins.
-struct Number {
-    value: u32,
-    next: usize,
-}
-
-// A digit's value, or 10.
-fn digit(byte: u8) -> u32
-    ensures { λ r. ⌜ r ≤ 10 ⌝ }
-{
-    if byte < 48 {
-        return 10;
+// Reads so many bytes to the front of the body; whether all of them came.
+fn read_body(body: &mut [u8], length: usize) -> bool {
+    if length <= body.len() {
+        return io::read_full(STDIN_FILENO, &mut body[..length]) == length;
     }
-    if byte < 58 {
-        return (byte - 48) as u32;
-    }
-    10
+    false
 }
 
-fn with_digit(value: u32, d: u32) -> u32 {
-    ((wide(value) * 10 + wide(d)) % 4294967296) as u32
-}
-
-// The number from a place on, up to the first byte that is no digit.
-fn number_at(text: &[u8; 64], from: usize) -> Number {
-    let mut value: u32 = 0;
-    let mut at = from;
-    while at < 64 {
-        let d = digit(text[at]);
-        at += 1;
-        if d == 10 {
-            return Number { value, next: at };
+// A case of any kind: a table or a text is kept for the cases after it. The length of the text that is kept.
+fn one_case(
+    kind: u32,
+    case: &[u32; CASE],
+    count: usize,
+    table: &mut [u32; CASE],
+    kept: &mut [u32; CASE],
+    length: usize,
+) -> usize {
+    match kind {
+        0 => *table = *case,
+        1 => run_case(case, count, table),
+        2 => lane_case(case, table),
+        3 => writing_case(case, count),
+        4 => {
+            *kept = *case;
+            return count;
         }
-        value = with_digit(value, d);
+        _ => reading_case(case, kept, length),
     }
-    Number { value, next: at }
+    length
 }
 
-fn run_cases(seed: u32, count: u32) {
-    let mut k: u32 = 0;
-    while k < count {
-        run_case(seed, k);
-        k += 1;
+// The next case's bytes, in front of the body: its kind and length, and kind 7 where there is none. One that is cut off is said to be.
+fn next_case(body: &mut [u8; BODY]) -> u32 {
+    if read_body(body, 3) {
+        let n = head(body);
+        if read_body(body, (n / 8) as usize) {
+            return n;
+        }
+        io::write_all(STDOUT_FILENO, b"a case is cut off\n");
     }
+    7
 }
 
-fn lane_cases(seed: u32, count: u32) {
-    let mut k: u32 = 0;
-    while k < count {
-        lane_case(seed, k);
-        k += 1;
-    }
-}
-
-fn listing_cases(seed: u32, count: u32) {
-    let mut k: u32 = 0;
-    while k < count {
-        listing_case(seed, k);
-        k += 1;
-    }
-}
-
-// Reads SEED RUNS LANES LISTINGS and prints a line for each case.
 fn main() {
-    let mut text = [0u8; 64];
-    io::read_full(0, &mut text);
-    let seed = number_at(&text, 0);
-    let runs = number_at(&text, seed.next);
-    let lanes = number_at(&text, runs.next);
-    let listings = number_at(&text, lanes.next);
-    run_cases(seed.value, runs.value);
-    lane_cases(seed.value, lanes.value);
-    listing_cases(seed.value, listings.value);
+    let mut body = [0u8; BODY];
+    let mut case = [0u32; CASE];
+    let mut table = [0u32; CASE];
+    let mut kept = [0u32; CASE];
+    let mut length: usize = 0;
+    let mut left: u32 = 4294967295;
+    while left > 0 {
+        let n = next_case(&mut body);
+        if n % 8 == 7 {
+            return;
+        }
+        let count = numbers(&body, (n / 8) as usize, &mut case);
+        length = one_case(n % 8, &case, count, &mut table, &mut kept, length);
+        left -= 1;
+    }
 }

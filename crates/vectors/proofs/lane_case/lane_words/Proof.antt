@@ -1,32 +1,36 @@
--- `lane_words`: within the 24 words.
-use Prim.Native.Nat.{_≤_, _-_}
+use Prim.Native.Nat.{_≤_, _-_, _+_, _*_}
 use borrow.Author.Needs.{needs}
+use lib.ListN.{length}
+use mathlib.Core.Path.{_≡_}
 use Rattle.vectors.proofs.lane_case.lane_words.Statement.{statement}
 use Rattle.vectors.proofs.lane_case.lane_words.Tie as tie
 
 abbrev Inv-loop : tie.InvT-loop
-Inv-loop x₀ c u words₀ before₀ slot₀ x words before slot = slot ≤ 24
+Inv-loop image lane words₀ slot₀ words slot = (slot ≤ 24) × (length words ≡ 24)
 
 abbrev μ-loop : tie.MeasureT-loop
-μ-loop x₀ c u words₀ before₀ slot₀ x words before slot = 24 - slot
-
-below-requires : tie.Need-below-requires Inv-loop μ-loop
-below-requires c κs = search needs
-
-below-requires-2 : tie.Need-below-requires-2 Inv-loop μ-loop
-below-requires-2 c κs = search needs
+μ-loop image lane words₀ slot₀ words slot = 24 - slot
 
 loop-holds : tie.Need-loop-holds Inv-loop μ-loop
 loop-holds c = search needs
 
-cast-lane-word : tie.Need-cast-lane-word Inv-loop μ-loop
-cast-lane-word c = search needs
-
-lane-word-requires : tie.Need-lane-word-requires Inv-loop μ-loop
-lane-word-requires c κs = search needs
-
 mul-words : tie.Need-mul-words Inv-loop μ-loop
 mul-words c = search needs
+
+cast-words : tie.Need-cast-words Inv-loop μ-loop
+cast-words c = search needs
+
+add-words : tie.Need-add-words Inv-loop μ-loop
+add-words c = search needs
+
+mul-words-2 : tie.Need-mul-words-2 Inv-loop μ-loop
+mul-words-2 c = search needs
+
+element-copy-out-words : tie.Need-element-copy-out-words Inv-loop μ-loop
+element-copy-out-words c = search needs
+
+mul-words-3 : tie.Need-mul-words-3 Inv-loop μ-loop
+mul-words-3 c = search needs
 
 array-write-words : tie.Need-array-write-words Inv-loop μ-loop
 array-write-words c = search needs
@@ -49,12 +53,13 @@ lane-words-spec =
     (tie.spec
     Inv-loop
     μ-loop
-    below-requires
-    below-requires-2
     loop-holds
-    cast-lane-word
-    lane-word-requires
     mul-words
+    cast-words
+    add-words
+    mul-words-2
+    element-copy-out-words
+    mul-words-3
     array-write-words
     add-slot
     loop-less

@@ -1,5 +1,4 @@
--- `byte_checksum`: within the bytes.
-use Prim.Native.Nat.{_≤_, _-_}
+use Prim.Native.Nat.{_≤_, _-_, _*_}
 use borrow.Author.Needs.{needs}
 use lib.ListN.{length}
 use Rattle.vectors.proofs.lines.byte_checksum.Statement.{statement}
@@ -14,11 +13,14 @@ abbrev μ-loop : tie.MeasureT-loop
 loop-holds : tie.Need-loop-holds Inv-loop μ-loop
 loop-holds c = search needs
 
-shared-slice-read-byte-mixed : tie.Need-shared-slice-read-byte-mixed Inv-loop μ-loop
-shared-slice-read-byte-mixed c = search needs
+shared-slice-read-of-byte : tie.Need-shared-slice-read-of-byte Inv-loop μ-loop
+shared-slice-read-of-byte c = search needs
 
-byte-mixed-requires : tie.Need-byte-mixed-requires Inv-loop μ-loop
-byte-mixed-requires c κs = search needs
+of-byte-requires : tie.Need-of-byte-requires Inv-loop μ-loop
+of-byte-requires c κs = search needs
+
+mixed-requires : tie.Need-mixed-requires Inv-loop μ-loop
+mixed-requires c κs = search needs
 
 add-i : tie.Need-add-i Inv-loop μ-loop
 add-i c = search needs
@@ -39,8 +41,9 @@ byte-checksum-spec =
     Inv-loop
     μ-loop
     loop-holds
-    shared-slice-read-byte-mixed
-    byte-mixed-requires
+    shared-slice-read-of-byte
+    of-byte-requires
+    mixed-requires
     add-i
     loop-less
     loop-again

@@ -1,15 +1,14 @@
--- `checksum`: within the words.
-use Prim.Native.Nat.{_≤_, _-_}
+use Prim.Native.Nat.{_≤_, _-_, _*_}
 use borrow.Author.Needs.{needs}
 use lib.ListN.{length}
 use Rattle.vectors.proofs.lines.checksum.Statement.{statement}
 use Rattle.vectors.proofs.lines.checksum.Tie as tie
 
 abbrev Inv-loop : tie.InvT-loop
-Inv-loop words h₀ i₀ h i = i ≤ length words
+Inv-loop before words h₀ i₀ h i = i ≤ length words
 
 abbrev μ-loop : tie.MeasureT-loop
-μ-loop words h₀ i₀ h i = length words - i
+μ-loop before words h₀ i₀ h i = length words - i
 
 loop-holds : tie.Need-loop-holds Inv-loop μ-loop
 loop-holds c = search needs
