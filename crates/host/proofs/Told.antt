@@ -2,6 +2,7 @@
 use Prim.Native.Nat.{ℕ}
 use mathlib.Core.Path.{_≡_, ap}
 use mathlib.Core.List.{List}
+use lib.ListN.{length}
 use Rattle.lane.specs.declared.Settings.{Settings}
 use Rattle.lane.specs.declared.Insn.{Insn}
 use Rattle.lane.specs.declared.Stepped.{Stepped}
@@ -10,7 +11,9 @@ use Rattle.runner.specs.declared.Outcome.{Outcome}
 use Rattle.runner.specs.Run.{outcomeOf, runImage, Ran}
 use Rattle.listing.specs.declared.Reading.{Reading}
 use Rattle.listing.specs.declared.Writing.{Writing}
+use Rattle.listing.specs.declared.Reporting.{Reporting}
 use Rattle.listing.specs.Listing.{readText, writeList, inFront}
+use Rattle.listing.specs.Report.{Printed, reported, reporting, Reports}
 use Rattle.host.specs.Words.{outcomeWords, settingsWords, readingWords, writingWords}
 
 pub told-run :
@@ -48,3 +51,11 @@ pub told-write :
     × ((writingWords r ≡ writingWords (writeList room t list .writing)) × (left ≡ inFront (writeList room t list .bytes) text))
 told-write s t room list text left r e h =
     rw (← e) (ap (λ (x : Writing). x .answer) (h .0), (ap writingWords (h .0), h .1))
+
+pub told-report :
+    (p : Printed) (room left : List ℕ) (r : Reporting)
+    → Reports p room left r
+    → (r .answer ≡ reporting (length room) p .answer)
+    × ((r .length ≡ reporting (length room) p .length) × (left ≡ inFront (reported (length room) (p .bytes)) room))
+told-report p room left r h =
+    (ap (λ (x : Reporting). x .answer) (h .told), (ap (λ (x : Reporting). x .length) (h .told), h .put))

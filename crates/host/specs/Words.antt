@@ -34,3 +34,7 @@ readingWords r = r .answer ∷ (r .steps ∷ (r .place ∷ (r .cursor ∷ (r .le
 
 unfoldable pub writingWords : Writing → List ℕ
 writingWords r = r .answer ∷ (r .steps ∷ (r .place ∷ (r .cursor ∷ (r .length ∷ []))))
+
+-- What the library replays: 1000 is document 01 by itself, and 1000 plus n is with the requests of document 02 up to M-n.
+abbrev pub version : ℕ
+version = 1000

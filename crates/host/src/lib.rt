@@ -4,6 +4,7 @@
 use lane::Insn;
 use lane::Settings;
 use lane::step::step_lane;
+use listing::program::replay;
 use listing::reader::read;
 use listing::reader::settings_of;
 use listing::writer::write;
@@ -16,7 +17,12 @@ ghost use Rattle.lane.specs.Refusals.{laneStep};
 ghost use Rattle.runner.specs.Run.{outcomeOf, runImage};
 ghost use Rattle.runner.specs.Image.{registerStart, registerCount};
 ghost use Rattle.listing.specs.Listing.{settingsOf, readText, writeList, inFront};
-ghost use Rattle.host.specs.Words.{settingsWords, insnOf, outcomeWords, readingWords, writingWords};
+ghost use Rattle.listing.specs.Program.{output};
+ghost use Rattle.listing.specs.Report.{reported, reporting};
+ghost use Rattle.host.specs.Words.{settingsWords, insnOf, outcomeWords, readingWords, writingWords, version};
+
+// What the library replays, as specs/ counts it.
+const VERSION: u32 = 1000;
 
 // An instruction, from six words in the list's order.
 fn insn_of(words: &[u32; 6]) -> Insn
@@ -136,6 +142,18 @@ pub extern "C" fn replay_write(
     put.answer
 }
 
+// The program's whole output for a listing, in front of the lent room; `taken` is how many bytes it takes there.
+#[no_mangle]
+pub extern "C" fn replay_report(text: &[u8], room: &mut [u8], taken: &mut usize) -> u32
+    ensures { λ r. ⌜ r ≡ reporting (length (now (room .entry))) (output (now (text .entry))) .answer ⌝ }
+    ensures { λ _. ⌜ now (taken .exit) ≡ reporting (length (now (room .entry))) (output (now (text .entry))) .length ⌝ }
+    ensures { λ _. ⌜ now (room .exit) ≡ inFront (reported (length (now (room .entry))) (output (now (text .entry)) .bytes)) (now (room .entry)) ⌝ }
+{
+    let put = replay(text, room);
+    *taken = put.length;
+    put.answer
+}
+
 // Where a register's words start in an image of `size` words.
 #[no_mangle]
 pub extern "C" fn replay_register_start(size: usize, register: u32) -> usize
@@ -150,4 +168,12 @@ pub extern "C" fn replay_register_count(size: usize, register: u32) -> usize
     ensures { λ r. ⌜ r ≡ registerCount size register ⌝ }
 {
     register_count(size, register)
+}
+
+// What this library replays: a host compares it with the number that it was compiled with.
+#[no_mangle]
+pub extern "C" fn replay_version() -> u32
+    ensures { λ r. ⌜ r ≡ version ⌝ }
+{
+    VERSION
 }
