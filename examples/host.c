@@ -1,10 +1,9 @@
 /* A host in C: runs two lists and looks at registers. examples/build-host builds and runs it. */
-#include "../include/replay.h"
+#include "replay.h"
+#include "replay_text.h"
 
 #include <stdio.h>
 #include <string.h>
-
-enum { LOADI = 2, IADD = 6 };
 
 static uint32_t image[REPLAY_IMAGE], list[REPLAY_LIST];
 static uint16_t dst[REPLAY_DST];
@@ -16,10 +15,10 @@ static const char listing[] =
 
 /* A list as words, six an instruction: register 1 becomes 40 in every lane, register 2 becomes 40 plus twice the lane's number. */
 static const uint32_t sum[] = {
-    /* op   imm  vb  vc  vd  mod */
-    LOADI,   40,  0,  0,  1,  10,       /* register 1, low half */
-    IADD,     0,  0, 15,  2,   4,       /* register 2 plus register 15, which is twice the lane; 4: no flag */
-    IADD,     0,  0,  1,  2,   4,       /* and plus register 1 */
+    /* op          imm  vb  vc  vd  mod */
+    REPLAY_OP_LOADI, 40, 0,  0,  1,  10,        /* register 1, low half */
+    REPLAY_OP_IADD,   0, 0, 15,  2,   4,        /* register 2 plus register 15, which is twice the lane; 4: no flag */
+    REPLAY_OP_IADD,   0, 0,  1,  2,   4,        /* and plus register 1 */
 };
 
 static void show(uint32_t reg)
@@ -34,21 +33,24 @@ static void show(uint32_t reg)
 static void run(const uint32_t settings[8], const uint32_t *words, size_t len)
 {
     uint32_t outcome[4];
-    if (replay_run(settings, image, REPLAY_IMAGE, dst, REPLAY_DST, words, len, outcome) == 0)
-        printf("%u steps, cursor %u\n", (unsigned)outcome[1], (unsigned)outcome[3]);
+    uint32_t answer = replay_run(settings, image, REPLAY_IMAGE, dst, REPLAY_DST, words, len, outcome);
+    if (answer == REPLAY_DONE)
+        printf("%u steps, cursor %u\n", (unsigned)outcome[REPLAY_OUTCOME_STEPS], (unsigned)outcome[REPLAY_OUTCOME_CURSOR]);
     else
-        printf("refused by %u at instruction %u\n", (unsigned)outcome[0], (unsigned)outcome[2]);
+        printf("refused by %u at instruction %u: %s\n", (unsigned)answer, (unsigned)outcome[REPLAY_OUTCOME_PLACE], replay_refusal_text(answer));
 }
 
 int main(void)
 {
     uint32_t settings[8], outcome[5];
 
-    if (replay_read((const uint8_t *)listing, strlen(listing), list, REPLAY_LIST, settings, outcome) != 0) {
-        printf("refused by %u at %u\n", (unsigned)outcome[0], (unsigned)outcome[2]);
+    uint32_t answer = replay_read((const uint8_t *)listing, strlen(listing), list, REPLAY_LIST, settings, outcome);
+    if (answer != REPLAY_DONE) {
+        printf("refused by %u at %u: %s\n", (unsigned)answer, (unsigned)outcome[REPLAY_OUTCOME_PLACE], replay_refusal_text(answer));
         return 1;
     }
-    run(settings, list, outcome[4]);
+    printf("a listing: edition %u, first op %s\n", (unsigned)settings[REPLAY_SETTING_EDITION], replay_op_name(list[REPLAY_INSN_OP]));
+    run(settings, list, outcome[REPLAY_OUTCOME_LENGTH]);
     show(12);
 
     run(settings, sum, sizeof sum / sizeof *sum);
@@ -56,7 +58,7 @@ int main(void)
     show(9);
 
     /* Op 16 is none: refused, and the image is as it was, though the first instruction is good. */
-    static const uint32_t faulty[] = {LOADI, 7, 0, 0, 1, 10, 16, 0, 0, 0, 0, 0};
+    static const uint32_t faulty[] = {REPLAY_OP_LOADI, 7, 0, 0, 1, 10, 16, 0, 0, 0, 0, 0};
     run(settings, faulty, sizeof faulty / sizeof *faulty);
     show(1);
     return 0;

@@ -1,18 +1,14 @@
-/* The replay for C and C++: link target/staticlib/libhost.a, which `rt staticlib host` writes for x86-64.
+/* The replay for C and C++. bin/install makes libreplay.a and libreplay.so, for x86-64; replay_text.h has names to print.
  *
- * Everything is lent by the caller. The library keeps nothing between calls, allocates nothing (reading takes some 30 KB of stack, writing
- * some 50), and writes only to what is passed without `const`. Parts lent to one call must not overlap. A length counts elements, not
- * bytes; a part of length 0 still needs a pointer that is not null. Calls that share nothing writable may run at the same time.
+ * Everything is lent by the caller. The library keeps nothing between calls, allocates nothing, and writes only to what is passed without
+ * `const`. Parts lent to one call must not overlap. Calls that share nothing writable may run at the same time. On the stack, running
+ * takes some 2 KB, reading 26, writing 48 and a report 90.
  *
- * Each function returns the answer: 0 if all was done, else the number of the refusal.
+ * Pointers. A length counts elements, not bytes. A part that comes with a length may be NULL where that length is 0, as the data() of an
+ * empty std::vector often is: nothing is read or written through it. Every other pointer (settings, outcome, insn, own, head, length) has
+ * no length and is never NULL.
  *
- *    1  image not 768 words                 7  unknown op
- *    2  Dst not 16,384 cells                8  a field outside its range, an unused field not 0, or mod not allowed
- *    3  a setting outside its range         9  LOAD mod 3, 4, 10 or 12
- *    4  list length not a multiple of six  10  listing text faulty
- *    5  more than 1,024 instructions       11  listing over 65,536 bytes, or lent room too short
- *    6  image not well formed
- */
+ * Each function but the last three returns the answer: REPLAY_DONE if all was done, else the number of the refusal. */
 #ifndef REPLAY_H
 #define REPLAY_H
 
@@ -23,19 +19,119 @@
 extern "C" {
 #endif
 
-/* The words of an image, the cells of a Dst, the words of the longest list, and the bytes of the longest listing. */
+/* What is replayed: 1000 is document 01 by itself, and 1000 plus n is with the requests up to M-n. A later request may change what a word
+ * means, so a host that loads the library at run time compares this with replay_version(). */
+#define REPLAY_VERSION 1000
+
+/* The words of an image, the cells of a Dst, the words of the longest list, and the bytes of the longest listing and report. */
 #define REPLAY_IMAGE 768
 #define REPLAY_DST 16384
 #define REPLAY_LIST 6144
 #define REPLAY_TEXT 46184
+#define REPLAY_REPORT 11188
+
+/* The lanes of a register; lane L is in row L / 8, column L % 8. */
+#define REPLAY_LANES 32
+
+/* Answers, the clerk's numbers. */
+enum replay_answer {
+    REPLAY_DONE = 0,
+    REPLAY_BAD_IMAGE_LENGTH = 1,        /* image not 768 words */
+    REPLAY_BAD_DST_LENGTH = 2,          /* Dst not 16,384 cells */
+    REPLAY_BAD_SETTING = 3,             /* a setting outside its range */
+    REPLAY_BAD_LIST_LENGTH = 4,         /* list length not a multiple of six */
+    REPLAY_TOO_MANY = 5,                /* more than 1,024 instructions */
+    REPLAY_BAD_IMAGE = 6,               /* image not well formed */
+    REPLAY_UNKNOWN_OP = 7,              /* unknown op */
+    REPLAY_BAD_FIELD = 8,               /* a field outside its range, an unused field not 0, or mod not allowed */
+    REPLAY_BAD_LOAD_MOD = 9,            /* LOAD mod 3, 4, 10 or 12 */
+    REPLAY_BAD_TEXT = 10,               /* listing text faulty */
+    REPLAY_TOO_LONG = 11                /* listing over 65,536 bytes, or lent room too short */
+};
+
+enum replay_op {
+    REPLAY_OP_LOAD = 1,
+    REPLAY_OP_LOADI = 2,
+    REPLAY_OP_LUT = 3,
+    REPLAY_OP_SWAP = 4,
+    REPLAY_OP_CONFIG = 5,
+    REPLAY_OP_IADD = 6,
+    REPLAY_OP_ABS = 7,
+    REPLAY_OP_AND = 8,
+    REPLAY_OP_OR = 9,
+    REPLAY_OP_XOR = 10,
+    REPLAY_OP_NOT = 11,
+    REPLAY_OP_LZ = 12,
+    REPLAY_OP_EXEXP = 13,
+    REPLAY_OP_EXMAN = 14,
+    REPLAY_OP_NOP = 15
+};
+
+/* The six words of an instruction. */
+enum replay_insn {
+    REPLAY_INSN_OP = 0,
+    REPLAY_INSN_IMM = 1,
+    REPLAY_INSN_VB = 2,
+    REPLAY_INSN_VC = 3,
+    REPLAY_INSN_VD = 4,
+    REPLAY_INSN_MOD = 5
+};
+
+/* The eight settings: edition and srcb are 1 or 2, the others 0 to 1023. */
+enum replay_setting {
+    REPLAY_SETTING_EDITION = 0,
+    REPLAY_SETTING_SRCB = 1,
+    REPLAY_SETTING_OFFSET = 2,
+    REPLAY_SETTING_CURSOR = 3,
+    REPLAY_SETTING_STRIDE0 = 4,
+    REPLAY_SETTING_STRIDE1 = 5,
+    REPLAY_SETTING_STRIDE2 = 6,
+    REPLAY_SETTING_STRIDE3 = 7
+};
+
+/* The words of an outcome; a run's has no length. */
+enum replay_outcome {
+    REPLAY_OUTCOME_ANSWER = 0,
+    REPLAY_OUTCOME_STEPS = 1,
+    REPLAY_OUTCOME_PLACE = 2,
+    REPLAY_OUTCOME_CURSOR = 3,
+    REPLAY_OUTCOME_LENGTH = 4
+};
+
+/* Where each part of an image begins, 32 words each, lane 0 first. The 24 words of one lane are in the same order: slot AT / 32. */
+enum replay_at {
+    REPLAY_AT_REGISTER_0 = 0,
+    REPLAY_AT_REGISTER_1 = 32,
+    REPLAY_AT_REGISTER_2 = 64,
+    REPLAY_AT_REGISTER_3 = 96,
+    REPLAY_AT_REGISTER_4 = 128,
+    REPLAY_AT_REGISTER_5 = 160,
+    REPLAY_AT_REGISTER_6 = 192,
+    REPLAY_AT_REGISTER_7 = 224,
+    REPLAY_AT_REGISTER_11 = 256,
+    REPLAY_AT_REGISTER_12 = 288,
+    REPLAY_AT_REGISTER_13 = 320,
+    REPLAY_AT_REGISTER_14 = 352,
+    REPLAY_AT_LANE_CONFIG = 384,        /* each below 2^18 */
+    REPLAY_AT_LANE_FLAGS = 416,         /* each 0 or 1 */
+    REPLAY_AT_USE_FLAGS = 448,          /* each 0 or 1 */
+    REPLAY_AT_TEMPLATE_0 = 480,
+    REPLAY_AT_TEMPLATE_1 = 512,
+    REPLAY_AT_TEMPLATE_2 = 544,
+    REPLAY_AT_TEMPLATE_3 = 576,
+    REPLAY_AT_SEQUENCE_0 = 608,
+    REPLAY_AT_SEQUENCE_1 = 640,
+    REPLAY_AT_SEQUENCE_2 = 672,
+    REPLAY_AT_SEQUENCE_3 = 704,
+    REPLAY_AT_MISC = 736                /* each below 2^12 */
+};
 
 /* Runs a list over an image.
  *
- *   settings  edition, srcb, offset, cursor, stride0 to stride3
- *   image     768 words, register by register, 32 lanes each: registers 0 to 7, 11 to 14, LaneConfig, LaneFlags, UseFlags, macro
- *             templates 0 to 3, sequences 0 to 3, Misc
+ *   settings  by enum replay_setting
+ *   image     768 words, by enum replay_at
  *   dst       16,384 cells, row by row, 16 in a row
- *   list      six words an instruction: op, imm, vb, vc, vd, mod
+ *   list      six words an instruction, by enum replay_insn
  *   outcome   answer, steps, place, cursor
  *
  * Done: the image is the one after the list, steps is the number of instructions, place 0, and cursor the final one.
@@ -61,7 +157,7 @@ uint32_t replay_lane(const uint32_t settings[8], uint32_t lane, const uint32_t i
 /* Reads a listing.
  *
  *   text      the listing, at most 65,536 bytes
- *   list      room for six words an instruction
+ *   list      room for six words an instruction: REPLAY_LIST words are always enough
  *   settings  becomes the listing's settings, in its order
  *   outcome   answer, steps, place, cursor, length
  *
@@ -83,10 +179,24 @@ uint32_t replay_read(const uint8_t *text, size_t text_len, uint32_t *list, size_
  * cursor is the one given, for 11 it is 0. */
 uint32_t replay_write(const uint32_t settings[8], const uint32_t *list, size_t list_len, uint8_t *text, size_t text_len, uint32_t outcome[5]);
 
+/* The program's whole output for a listing, which it runs from an image and a Dst of zeros.
+ *
+ *   text      the listing
+ *   room      room for the report: REPLAY_REPORT bytes are always enough
+ *   length    becomes the bytes of the report
+ *
+ * The first `length` bytes of `room` are the report, with no zero after it, and the bytes past them stay. The answer is the one in the
+ * report, which may be a refusal by 3, 5, 8, 9, 10 or 11.
+ * Where the room is too short for it, the answer is 11, length is 0 and `room` is untouched. */
+uint32_t replay_report(const uint8_t *text, size_t text_len, uint8_t *room, size_t room_len, size_t *length);
+
 /* A stored register's lanes in an image of image_len words: the index of the first word, and how many there are, lane 0 first. 32 words
- * for registers 0 to 7 and 11 to 14; for any other register, or an image not 768 words long, none, at 0. These two answer no refusal. */
+ * for registers 0 to 7 and 11 to 14; for any other register, or an image not 768 words long, none, at 0. */
 size_t replay_register_start(size_t image_len, uint32_t reg);
 size_t replay_register_count(size_t image_len, uint32_t reg);
+
+/* The REPLAY_VERSION of the library. */
+uint32_t replay_version(void);
 
 #ifdef __cplusplus
 }
