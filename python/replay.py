@@ -1,0 +1,189 @@
+"""The proved replay from Python: libreplay.so by ctypes, with the standard library alone. include/replay.h says what each function promises.
+
+Words are array('I'), cells array('H'), texts bytes. An image is changed in place; nothing is where an answer is a refusal:
+
+    settings, words, outcome = read(open("examples/sort-step.lst", "rb").read())
+    state = image()
+    outcome = run(settings, state, dst(), words)
+    print(outcome.text, register(state, 0))
+
+The library is REPLAY_LIBRARY where that is set, else the one of the prefix or the repository that this file is in. It is for x86-64.
+"""
+
+import ctypes
+import os
+from array import array
+from dataclasses import astuple, dataclass
+
+VERSION = 1000
+IMAGE, DST, LIST, TEXT, REPORT, LANES = 768, 16384, 6144, 46184, 11188, 32
+
+# The ops by number, and the answers in the clerk's words.
+OPS = (None, "LOAD", "LOADI", "LUT", "SWAP", "CONFIG", "IADD", "ABS", "AND", "OR", "XOR", "NOT", "LZ", "EXEXP", "EXMAN", "NOP")
+ANSWERS = (
+    "all done",
+    "image not 768 words",
+    "Dst not 16,384 cells",
+    "a setting outside its range",
+    "list length not a multiple of six",
+    "more than 1,024 instructions",
+    "image not well formed",
+    "unknown op",
+    "a field outside its range, an unused field not 0, or mod not allowed",
+    "LOAD mod 3, 4, 10 or 12",
+    "listing text faulty",
+    "listing over 65,536 bytes, or lent room too short",
+)
+
+
+@dataclass
+class Settings:
+    edition: int = 1
+    srcb: int = 1
+    offset: int = 0
+    cursor: int = 0
+    stride0: int = 0
+    stride1: int = 0
+    stride2: int = 0
+    stride3: int = 0
+
+
+@dataclass
+class Outcome:
+    answer: int
+    steps: int
+    place: int
+    cursor: int
+    length: int = 0
+
+    @property
+    def done(self):
+        return self.answer == 0
+
+    @property
+    def text(self):
+        return ANSWERS[self.answer]
+
+
+def image():
+    """An image of zeros."""
+    return array("I", [0]) * IMAGE
+
+
+def dst():
+    """A Dst of zeros."""
+    return array("H", [0]) * DST
+
+
+def run(settings, image, dst, words):
+    """Runs a list, six words an instruction, over an image, which it changes in place."""
+    words, outcome = array("I", words), _zeros(4)
+    _library.replay_run(_settings(settings), *_part(image, "I"), *_part(dst, "H"), *_part(words, "I"), _fixed(outcome, 4))
+    return Outcome(*outcome)
+
+
+def lane(settings, lane, insn, own, head, even=0, odd=0):
+    """One instruction in one lane, whose 24 words it changes in place. Returns the answer."""
+    (lane,), (even, odd) = array("I", [lane]), array("H", [even, odd])
+    insn, head = array("I", insn), array("I", head)
+    return _library.replay_lane(_settings(settings), lane, _fixed(insn, 6), _fixed(own, 24), _fixed(head, 24), even, odd)
+
+
+def read(text):
+    """The settings, the list and the outcome of reading a listing."""
+    words, settings, outcome = _zeros(LIST), _zeros(8), _zeros(5)
+    _library.replay_read(text, len(text), *_part(words, "I"), _fixed(settings, 8), _fixed(outcome, 5))
+    outcome = Outcome(*outcome)
+    return Settings(*settings), words[: outcome.length], outcome
+
+
+def write(settings, words):
+    """The listing of a list, and the outcome of writing it."""
+    words, room, outcome = array("I", words), array("B", bytes(TEXT)), _zeros(5)
+    _library.replay_write(_settings(settings), *_part(words, "I"), *_part(room, "B"), _fixed(outcome, 5))
+    outcome = Outcome(*outcome)
+    return room[: outcome.length].tobytes(), outcome
+
+
+def report(text):
+    """The program's whole output for a listing, and the answer in it."""
+    room, length = array("B", bytes(REPORT)), ctypes.c_size_t()
+    answer = _library.replay_report(text, len(text), *_part(room, "B"), ctypes.byref(length))
+    return room[: length.value].tobytes(), answer
+
+
+def register(image, reg):
+    """A stored register's words, lane 0 first; none for another register, or an image not 768 words long."""
+    (reg,) = array("I", [reg])
+    start = _library.replay_register_start(len(image), reg)
+    return image[start : start + _library.replay_register_count(len(image), reg)]
+
+
+def version():
+    """The version of the library that was loaded."""
+    return _library.replay_version()
+
+
+# ---- how it is lent: by arrays, which check that a number fits, where ctypes would cut it
+
+_TYPES = {"I": ctypes.c_uint32, "H": ctypes.c_uint16, "B": ctypes.c_uint8}
+
+
+def _zeros(count):
+    return array("I", [0]) * count
+
+
+def _part(values, code):
+    """An array as pointer and length."""
+    if not isinstance(values, array) or values.typecode != code:
+        raise TypeError(f"array('{code}') expected")
+    return (_TYPES[code] * len(values)).from_buffer(values), len(values)
+
+
+def _fixed(values, count):
+    if len(values) != count:
+        raise ValueError(f"{count} words expected, not {len(values)}")
+    return _part(values, "I")[0]
+
+
+def _settings(settings):
+    return _fixed(array("I", astuple(settings)), 8)
+
+
+def _find():
+    """The library's path: REPLAY_LIBRARY, or PREFIX/lib beside PREFIX/share/replay, or the repository's target/lib."""
+    if "REPLAY_LIBRARY" in os.environ:
+        return os.environ["REPLAY_LIBRARY"]
+    here = os.path.dirname(os.path.realpath(__file__))
+    paths = [os.path.normpath(os.path.join(here, part, "libreplay.so")) for part in ("../../lib", "../target/lib")]
+    for path in paths:
+        if os.path.exists(path):
+            return path
+    raise ImportError(f"no libreplay.so at {' or '.join(paths)}: examples/build-host python makes it; or set REPLAY_LIBRARY")
+
+
+def _load(path):
+    try:
+        library = ctypes.CDLL(path)
+        library.replay_version.restype = ctypes.c_uint32
+        found = library.replay_version()
+    except (OSError, AttributeError) as error:
+        raise ImportError(f"{path} can't be used: {error}") from error
+    if found != VERSION:
+        raise ImportError(f"{path} has version {found}, and this file {VERSION}")
+    pointer, size, word, cell = ctypes.c_void_p, ctypes.c_size_t, ctypes.c_uint32, ctypes.c_uint16
+    for name, result, arguments in (
+        ("replay_run", word, [pointer, pointer, size, pointer, size, pointer, size, pointer]),
+        ("replay_lane", word, [pointer, word, pointer, pointer, pointer, cell, cell]),
+        ("replay_read", word, [ctypes.c_char_p, size, pointer, size, pointer, pointer]),
+        ("replay_write", word, [pointer, pointer, size, pointer, size, pointer]),
+        ("replay_report", word, [ctypes.c_char_p, size, pointer, size, pointer]),
+        ("replay_register_start", size, [size, word]),
+        ("replay_register_count", size, [size, word]),
+    ):
+        function = getattr(library, name)
+        function.restype, function.argtypes = result, arguments
+    return library
+
+
+_library = _load(_find())
