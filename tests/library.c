@@ -1,0 +1,266 @@
+/* The library as a host meets it, in the common part of C11 and C++17: tests/library compiles and runs it, one topic a run.
+ *
+ * A topic ends with status 0 if all holds; else what does not is printed. `names` prints the names for the script to compare. */
+#include "replay.h"
+#include "replay_text.h"
+
+#include <stdio.h>
+#include <stdlib.h>
+#include <string.h>
+
+static uint32_t image[REPLAY_IMAGE], list[REPLAY_LIST], settings[8], outcome[5];
+static uint16_t dst[REPLAY_DST];
+static uint8_t text[REPLAY_TEXT], room[REPLAY_REPORT + 1];
+static int failures;
+
+static void expect(int holds, const char *what, unsigned n)
+{
+    if (holds) return;
+    failures++;
+    printf("does not hold: %s (%u)\n", what, n);
+}
+
+static void start(void)
+{
+    memset(image, 0, sizeof image);
+    memset(settings, 0, sizeof settings);
+    settings[REPLAY_SETTING_EDITION] = 1;
+    settings[REPLAY_SETTING_SRCB] = 2;
+}
+
+static uint32_t run_one(uint32_t op, uint32_t imm, uint32_t vc, uint32_t vd, uint32_t mod)
+{
+    uint32_t insn[6] = {0};
+    insn[REPLAY_INSN_OP] = op;
+    insn[REPLAY_INSN_IMM] = imm;
+    insn[REPLAY_INSN_VC] = vc;
+    insn[REPLAY_INSN_VD] = vd;
+    insn[REPLAY_INSN_MOD] = mod;
+    return replay_run(settings, image, REPLAY_IMAGE, dst, REPLAY_DST, insn, 6, outcome);
+}
+
+static void version(void)
+{
+    expect(replay_version() == REPLAY_VERSION, "the library's version is the header's", replay_version());
+}
+
+/* Each op's name stands in the listing of an instruction of that op, and the listing gives the op back. */
+static void ops(void)
+{
+    char line[32];
+    start();
+    for (uint32_t op = REPLAY_OP_LOAD; op <= REPLAY_OP_NOP; op++) {
+        uint32_t insn[6] = {0};
+        insn[REPLAY_INSN_OP] = op;
+        insn[REPLAY_INSN_MOD] = op == REPLAY_OP_LOADI ? 8 : 0;
+        expect(replay_write(settings, insn, 6, text, REPLAY_TEXT - 1, outcome) == REPLAY_DONE, "written", op);
+        text[outcome[REPLAY_OUTCOME_LENGTH]] = 0;
+        snprintf(line, sizeof line, "\nop=%s imm=", replay_op_name(op));
+        expect(strstr((const char *)text, line) != NULL, "its name is in the listing", op);
+        expect(replay_read(text, outcome[REPLAY_OUTCOME_LENGTH], list, REPLAY_LIST, settings, outcome) == REPLAY_DONE, "read", op);
+        expect(outcome[REPLAY_OUTCOME_LENGTH] == 6 && memcmp(list, insn, sizeof insn) == 0, "and is what was written", op);
+    }
+    expect(strcmp(replay_op_name(0), "unknown") == 0 && strcmp(replay_op_name(REPLAY_OP_NOP + 1), "unknown") == 0, "no name past the ops", 0);
+    expect(run_one(0, 0, 0, 0, 0) == REPLAY_UNKNOWN_OP && run_one(REPLAY_OP_NOP + 1, 0, 0, 0, 0) == REPLAY_UNKNOWN_OP, "no op past the names", 0);
+}
+
+/* Each answer that a host can be given, by a call that is to get it. */
+static void answers(void)
+{
+    static const uint32_t nops[REPLAY_LIST + 6] = {REPLAY_OP_NOP};
+    start();
+    expect(run_one(REPLAY_OP_NOP, 0, 0, 0, 0) == REPLAY_DONE, "done", 0);
+    expect(replay_run(settings, image, REPLAY_IMAGE - 1, dst, REPLAY_DST, nops, 6, outcome) == REPLAY_BAD_IMAGE_LENGTH, "image length", 1);
+    expect(replay_run(settings, image, REPLAY_IMAGE, dst, REPLAY_DST - 1, nops, 6, outcome) == REPLAY_BAD_DST_LENGTH, "Dst length", 2);
+    expect(replay_run(settings, image, REPLAY_IMAGE, dst, REPLAY_DST, nops, 5, outcome) == REPLAY_BAD_LIST_LENGTH, "list length", 4);
+    expect(replay_run(settings, image, REPLAY_IMAGE, dst, REPLAY_DST, nops, REPLAY_LIST + 6, outcome) == REPLAY_TOO_MANY, "too many", 5);
+    expect(run_one(16, 0, 0, 0, 0) == REPLAY_UNKNOWN_OP, "op", 7);
+    expect(run_one(REPLAY_OP_NOP, 1, 0, 0, 0) == REPLAY_BAD_FIELD, "field", 8);
+    expect(run_one(REPLAY_OP_LOAD, 0, 0, 0, 3) == REPLAY_BAD_LOAD_MOD, "LOAD mod", 9);
+    expect(replay_read((const uint8_t *)"\n", 1, list, REPLAY_LIST, settings, outcome) == REPLAY_BAD_TEXT, "text", 10);
+    start();
+    expect(replay_write(settings, nops, 6, text, 10, outcome) == REPLAY_TOO_LONG, "room", 11);
+    settings[REPLAY_SETTING_EDITION] = 3;
+    expect(run_one(REPLAY_OP_NOP, 0, 0, 0, 0) == REPLAY_BAD_SETTING, "setting", 3);
+}
+
+/* The words of settings, instruction and outcome are where the header says. */
+static void words(void)
+{
+    static const char listing[] = "edition=2\nsrcb=1\noffset=0003\ncursor=0004\nstride0=0005\nstride1=0006\nstride2=0007\nstride3=0008\n"
+                                  "count=0002\nop=LOAD imm=00012 vb=01 vc=00 vd=00 mod=02\nop=AND imm=00000 vb=09 vc=10 vd=11 mod=01\n";
+    expect(replay_read((const uint8_t *)listing, strlen(listing), list, REPLAY_LIST, settings, outcome) == REPLAY_DONE, "read", 0);
+    expect(settings[REPLAY_SETTING_EDITION] == 2 && settings[REPLAY_SETTING_SRCB] == 1 && settings[REPLAY_SETTING_OFFSET] == 3 &&
+           settings[REPLAY_SETTING_CURSOR] == 4 && settings[REPLAY_SETTING_STRIDE0] == 5 && settings[REPLAY_SETTING_STRIDE1] == 6 &&
+           settings[REPLAY_SETTING_STRIDE2] == 7 && settings[REPLAY_SETTING_STRIDE3] == 8, "settings", 0);
+    expect(outcome[REPLAY_OUTCOME_CURSOR] == 4 && outcome[REPLAY_OUTCOME_LENGTH] == 12, "the outcome of reading", 0);
+    uint32_t *second = list + 6;
+    expect(list[REPLAY_INSN_IMM] == 12 && second[REPLAY_INSN_OP] == REPLAY_OP_AND && second[REPLAY_INSN_VB] == 9 && second[REPLAY_INSN_VC] == 10 &&
+           second[REPLAY_INSN_VD] == 11 && second[REPLAY_INSN_MOD] == 1, "instructions", 0);
+    expect(replay_run(settings, image, REPLAY_IMAGE, dst, REPLAY_DST, list, 12, outcome) == REPLAY_DONE, "run", 0);
+    expect(outcome[REPLAY_OUTCOME_ANSWER] == 0 && outcome[REPLAY_OUTCOME_STEPS] == 2 && outcome[REPLAY_OUTCOME_PLACE] == 0 &&
+           outcome[REPLAY_OUTCOME_CURSOR] == 10, "the outcome of a run", 0);
+    second[REPLAY_INSN_MOD] = 2;
+    expect(replay_run(settings, image, REPLAY_IMAGE, dst, REPLAY_DST, list, 12, outcome) == REPLAY_BAD_FIELD, "refused", 0);
+    expect(outcome[REPLAY_OUTCOME_ANSWER] == 8 && outcome[REPLAY_OUTCOME_STEPS] == 0 && outcome[REPLAY_OUTCOME_PLACE] == 1 &&
+           outcome[REPLAY_OUTCOME_CURSOR] == 4, "the outcome of a refusal", 0);
+}
+
+/* The rooms that the header calls enough are enough for the longest list, listing and report. */
+static void sizes(void)
+{
+    static const uint32_t registers[12] = {0, 1, 2, 3, 4, 5, 6, 7, 11, 12, 13, 14};
+    size_t length = 0;
+    start();
+    for (size_t i = 0; i < REPLAY_LIST; i += 6) {
+        uint32_t vd = registers[i / 6 % 12];
+        list[i + REPLAY_INSN_OP] = vd < 8 ? REPLAY_OP_LOADI : REPLAY_OP_CONFIG;
+        list[i + REPLAY_INSN_IMM] = 1;
+        list[i + REPLAY_INSN_VB] = list[i + REPLAY_INSN_VC] = 0;
+        list[i + REPLAY_INSN_VD] = vd;
+        list[i + REPLAY_INSN_MOD] = vd < 8 ? 8 : 1;
+    }
+    expect(replay_write(settings, list, REPLAY_LIST, text, REPLAY_TEXT, outcome) == REPLAY_DONE, "written", outcome[REPLAY_OUTCOME_LENGTH]);
+    expect(replay_report(text, outcome[REPLAY_OUTCOME_LENGTH], room, REPLAY_REPORT, &length) == REPLAY_DONE, "every word reported", (unsigned)length);
+    for (size_t i = 0; i < REPLAY_LIST; i += 6) {
+        list[i + REPLAY_INSN_OP] = REPLAY_OP_CONFIG;    /* the longest name */
+        list[i + REPLAY_INSN_MOD] = 1;
+    }
+    expect(replay_write(settings, list, REPLAY_LIST, text, REPLAY_TEXT, outcome) == REPLAY_DONE, "the longest written", outcome[REPLAY_OUTCOME_ANSWER]);
+    expect(outcome[REPLAY_OUTCOME_LENGTH] == REPLAY_TEXT, "and is that long", outcome[REPLAY_OUTCOME_LENGTH]);
+    expect(replay_read(text, REPLAY_TEXT, list, REPLAY_LIST, settings, outcome) == REPLAY_DONE, "and read", outcome[REPLAY_OUTCOME_ANSWER]);
+    expect(outcome[REPLAY_OUTCOME_LENGTH] == REPLAY_LIST, "to a list that long", outcome[REPLAY_OUTCOME_LENGTH]);
+}
+
+/* A lane's words are in the image's order. */
+static void lane(void)
+{
+    uint32_t insn[6] = {REPLAY_OP_LOADI, 40, 0, 0, 1, 10}, own[24] = {0}, head[24] = {0};
+    start();
+    expect(replay_lane(settings, 9, insn, own, head, 0, 0) == REPLAY_DONE, "done", 0);
+    expect(own[REPLAY_AT_REGISTER_1 / REPLAY_LANES] == 40, "the register's slot", own[1]);
+    own[REPLAY_AT_MISC / REPLAY_LANES] = 1u << 12;
+    expect(replay_lane(settings, 9, insn, own, head, 0, 0) == REPLAY_BAD_IMAGE, "Misc's slot", 0);
+}
+
+static void config_at(uint32_t vd, unsigned at)
+{
+    start();
+    image[REPLAY_AT_REGISTER_0] = 5;    /* row 0's register 0 is what CONFIG stores */
+    run_one(REPLAY_OP_CONFIG, 0, 0, vd, 0);
+    expect(image[at] == 5 && image[at + 24] == 5, "CONFIG stores there", vd);
+}
+
+/* `limit` is the first word that is not well formed, in the part's first lane and its last. */
+static void limit_at(unsigned at, uint32_t limit)
+{
+    for (unsigned lane_at = at; lane_at < at + REPLAY_LANES; lane_at += REPLAY_LANES - 1) {
+        start();
+        image[lane_at] = limit - 1;
+        expect(run_one(REPLAY_OP_NOP, 0, 0, 0, 0) == REPLAY_DONE, "below the limit", lane_at);
+        image[lane_at] = limit;
+        expect(run_one(REPLAY_OP_NOP, 0, 0, 0, 0) == REPLAY_BAD_IMAGE, "at the limit", lane_at);
+    }
+}
+
+/* Each part of an image is where the header says. */
+static void parts(void)
+{
+    static const unsigned at[16] = {REPLAY_AT_REGISTER_0, REPLAY_AT_REGISTER_1, REPLAY_AT_REGISTER_2, REPLAY_AT_REGISTER_3,
+                                    REPLAY_AT_REGISTER_4, REPLAY_AT_REGISTER_5, REPLAY_AT_REGISTER_6, REPLAY_AT_REGISTER_7, 0, 0, 0,
+                                    REPLAY_AT_REGISTER_11, REPLAY_AT_REGISTER_12, REPLAY_AT_REGISTER_13, REPLAY_AT_REGISTER_14, 0};
+    static const unsigned configs[9] = {REPLAY_AT_TEMPLATE_0, REPLAY_AT_TEMPLATE_1, REPLAY_AT_TEMPLATE_2, REPLAY_AT_TEMPLATE_3,
+                                        REPLAY_AT_SEQUENCE_0, REPLAY_AT_SEQUENCE_1, REPLAY_AT_SEQUENCE_2, REPLAY_AT_SEQUENCE_3, REPLAY_AT_MISC};
+    for (uint32_t reg = 0; reg < 17; reg++) {
+        size_t lanes = reg < 8 || (reg >= 11 && reg < 15) ? REPLAY_LANES : 0;
+        expect(replay_register_count(REPLAY_IMAGE, reg) == lanes, "the lanes of a register", reg);
+        expect(lanes == 0 || replay_register_start(REPLAY_IMAGE, reg) == at[reg], "where a register begins", reg);
+    }
+    expect(replay_register_count(REPLAY_IMAGE - 1, 0) == 0, "none in another image", 0);
+    for (uint32_t vd = 0; vd < 9; vd++) config_at(vd, configs[vd]);
+    config_at(15, REPLAY_AT_LANE_CONFIG);
+    limit_at(REPLAY_AT_LANE_CONFIG, 1u << 18);
+    limit_at(REPLAY_AT_LANE_FLAGS, 2);
+    limit_at(REPLAY_AT_USE_FLAGS, 2);
+    limit_at(REPLAY_AT_MISC, 1u << 12);
+    /* flags 0 and UseFlag 1: not enabled, so nothing is stored there */
+    start();
+    image[REPLAY_AT_USE_FLAGS + 3] = 1;
+    run_one(REPLAY_OP_LOADI, 7, 0, 2, 10);
+    expect(image[REPLAY_AT_REGISTER_2 + 3] == 0 && image[REPLAY_AT_REGISTER_2 + 4] == 7, "UseFlags", 0);
+}
+
+/* A part of length 0 may be NULL, in each function and each place. */
+static void nulls(void)
+{
+    size_t length = 99;
+    start();
+    expect(replay_run(settings, NULL, 0, dst, REPLAY_DST, list, 6, outcome) == REPLAY_BAD_IMAGE_LENGTH, "no image", 0);
+    expect(replay_run(settings, image, REPLAY_IMAGE, NULL, 0, list, 6, outcome) == REPLAY_BAD_DST_LENGTH, "no Dst", 0);
+    expect(replay_run(settings, image, REPLAY_IMAGE, dst, REPLAY_DST, NULL, 0, outcome) == REPLAY_DONE, "no list to run", 0);
+    expect(replay_run(settings, NULL, 0, NULL, 0, NULL, 0, outcome) == REPLAY_BAD_IMAGE_LENGTH, "nothing to run", 0);
+    expect(replay_write(settings, NULL, 0, text, REPLAY_TEXT, outcome) == REPLAY_DONE, "no list to write", 0);
+    uint32_t size = outcome[REPLAY_OUTCOME_LENGTH];
+    expect(replay_write(settings, NULL, 0, NULL, 0, outcome) == REPLAY_TOO_LONG, "no room for a text", 0);
+    expect(replay_read(text, size, NULL, 0, settings, outcome) == REPLAY_DONE, "no room for a list of none", 0);
+    expect(replay_report(text, size, NULL, 0, &length) == REPLAY_TOO_LONG && length == 0, "no room for a report", 0);
+    uint32_t nop[6] = {REPLAY_OP_NOP};
+    replay_write(settings, nop, 6, text, REPLAY_TEXT, outcome);
+    expect(replay_read(text, outcome[REPLAY_OUTCOME_LENGTH], NULL, 0, settings, outcome) == REPLAY_TOO_LONG, "no room for a list", 0);
+    expect(replay_read(NULL, 0, NULL, 0, settings, outcome) == REPLAY_BAD_TEXT, "no text to read", 0);
+    expect(replay_report(NULL, 0, room, REPLAY_REPORT, &length) == REPLAY_BAD_TEXT && length == 44, "no text to report", (unsigned)length);
+    expect(replay_report(NULL, 0, NULL, 0, &length) == REPLAY_TOO_LONG && length == 0, "nothing to report", 0);
+}
+
+static size_t content(const char *name, uint8_t *bytes, size_t most)
+{
+    FILE *file = fopen(name, "rb");
+    if (file == NULL) {
+        perror(name);
+        exit(2);
+    }
+    size_t size = fread(bytes, 1, most, file);
+    fclose(file);
+    return size;
+}
+
+/* The report of a listing is the one stored, in room that is just enough; in less, nothing. */
+static void report(const char *listing, const char *stored)
+{
+    static uint8_t wanted[REPLAY_REPORT];
+    size_t size = content(listing, text, sizeof text), needed = content(stored, wanted, sizeof wanted), length = 99;
+    memset(room, 0xA5, sizeof room);
+    expect(replay_report(text, size, room, needed - 1, &length) == REPLAY_TOO_LONG && length == 0, "a byte too short", (unsigned)length);
+    for (size_t i = 0; i < sizeof room; i++) expect(room[i] == 0xA5, "room untouched", (unsigned)i);
+    uint32_t answer = replay_report(text, size, room, needed, &length);
+    expect(length == needed && memcmp(room, wanted, needed) == 0, "the stored report", (unsigned)length);
+    expect((uint32_t)strtoul((const char *)wanted + strlen("answer="), NULL, 10) == answer, "the answer in it", answer);
+    for (size_t i = needed; i < sizeof room; i++) expect(room[i] == 0xA5, "the bytes past it stay", (unsigned)i);
+    memset(room, 0xA5, sizeof room);
+    expect(replay_report(text, size, room, sizeof room, &length) == answer && length == needed && room[needed] == 0xA5, "room to spare", (unsigned)length);
+}
+
+static void names(void)
+{
+    for (uint32_t op = 1; op <= REPLAY_OP_NOP; op++) printf("op %u %s\n", (unsigned)op, replay_op_name(op));
+    for (uint32_t answer = 0; answer <= REPLAY_TOO_LONG; answer++) printf("answer %u %s\n", (unsigned)answer, replay_refusal_text(answer));
+    expect(strcmp(replay_refusal_text(REPLAY_TOO_LONG + 1), "unknown") == 0, "no text past the answers", 0);
+}
+
+int main(int argc, char **argv)
+{
+    static const struct { const char *name; void (*topic)(void); } topics[] = {
+        {"version", version}, {"ops", ops}, {"answers", answers}, {"words", words}, {"sizes", sizes}, {"lane", lane}, {"parts", parts}, {"nulls", nulls}, {"names", names},
+    };
+    if (argc == 4 && strcmp(argv[1], "report") == 0) {
+        report(argv[2], argv[3]);
+        return failures != 0;
+    }
+    for (size_t i = 0; argc == 2 && i < sizeof topics / sizeof *topics; i++)
+        if (strcmp(argv[1], topics[i].name) == 0) {
+            topics[i].topic();
+            return failures != 0;
+        }
+    fprintf(stderr, "usage: library TOPIC, or library report LISTING REPORT\n");
+    return 2;
+}
