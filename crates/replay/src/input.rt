@@ -4,7 +4,7 @@ ghost use lib.ListN.{length};
 ghost use Rattle.io.specs.Counts.{Counts};
 
 // How many bytes were read, and whether these are all: false where a read failed.
-pub struct Input {
+pub(crate) struct Input {
     pub length: usize,
     pub whole: bool,
 }
@@ -24,7 +24,7 @@ fn read_at(fd: i32, buf: &mut [u8], at: usize) -> Input
 
 // Reads until buf is full or the input ends. Why a read failed can't be seen here, so that one which a signal interrupted counts as failed too;
 // the program handles no signal, and the system then takes such a read up again by itself.
-pub fn read_all(fd: i32, buf: &mut [u8]) -> Input
+pub(crate) fn read_all(fd: i32, buf: &mut [u8]) -> Input
     ensures { λ r. ⌜ Counts (r .length) (now (buf .exit)) ⌝ }
 {
     let mut done: usize = 0;
