@@ -4,113 +4,117 @@
 #include <inttypes.h>
 #include <string.h>
 
-/* What the cases so far have kept for those after them. */
-static struct numbers table, kept;
+/* The text that is kept for the readings after it. */
+static struct numbers kept;
 
 static uint32_t x;
 
 static uint32_t draw(void)
 {
-    x = x * 1664525u + 1013904223u;
-    return x / 65536;
+    x ^= x << 13;
+    x ^= x >> 17;
+    x ^= x << 5;
+    return x;
 }
 
 static uint32_t word_of(unsigned slot)
 {
     static const uint32_t limit[SLOTS] = { [SLOT_CONFIG] = 262144, [SLOT_FLAG] = 2, [SLOT_USE] = 2, [SLOT_MISC] = 4096 };
-    uint32_t d = draw(), w = d / 4 % 32 < table.count ? table.word[d / 4 % 32] : 0;
-    if (d % 4 != 0) {
-        w = draw() * 65536;
-        w += draw();
-    }
+    uint32_t shape = draw() % 8, w = draw();
+    if (shape == 0) w &= 0x80000000;
+    else if (shape == 1) w &= 0x807FFFFF;
+    else if (shape == 2) w |= 0x7F800000;
+    else if (shape == 3) w %= 16;
     return slot < SLOTS && limit[slot] != 0 ? w % limit[slot] : w;
 }
 
 static uint16_t cell_of(void)
 {
-    uint32_t d = draw();
-    return (uint16_t)(x / 8192 % 8 == 0 ? table.word[32 + d % 16] : d);
+    uint32_t w = draw(), shape = w / 65536 % 8;
+    return (uint16_t)(shape == 0 ? w & 0x8000 : shape == 1 ? w | 0x7FFF : w);
 }
 
-/* An image from a place of the case on; the place after it. */
-static size_t make_image(const struct numbers *c, size_t at, uint32_t *image)
+/* An image from a place of the case on. */
+static void make_image(const struct numbers *c, size_t at, uint32_t *image)
 {
     x = c->word[at];
     for (unsigned i = 0; i < ROOM_IMAGE; i++) image[i] = word_of(i / LANES);
     uint32_t changes = c->word[at + 1];
     for (at += 2; changes > 0; changes--, at += 3)
-        for (unsigned lane = 0; lane < LANES; lane++)
-            if (c->word[at + 1] >> lane & 1 && c->word[at] < ROOM_IMAGE / LANES) image[LANES * c->word[at] + lane] = c->word[at + 2];
-    return at;
+        for (uint32_t i = 0; i < c->word[at + 1]; i++)
+            if (c->word[at] + i < ROOM_IMAGE) image[c->word[at] + i] = c->word[at + 2];
 }
 
 static void make_list(const struct numbers *c, size_t at, uint32_t *list)
 {
-    for (size_t i = 0; i < ROOM_LIST; i++) list[i] = at < c->count ? c->word[at + i % (c->count - at)] : 0;
+    uint32_t given = c->word[at];
+    for (size_t i = 0; i < ROOM_LIST; i++) list[i] = given > 0 ? c->word[at + 1 + i % given] : 0;
 }
 
 /* As much of a room as there is. */
 static size_t at_most(uint32_t length, size_t most) { return length < most ? length : most; }
 
+static void make_settings(const struct numbers *c, uint32_t settings[8]) { memcpy(settings, c->word + 1, 8 * sizeof *settings); }
+
 void ind_make_run(const struct numbers *c, struct run_case *r)
 {
-    memcpy(r->settings, c->word, sizeof r->settings);
-    r->image_len = at_most(c->word[8], ROOM_IMAGE);
-    r->dst_len = at_most(c->word[9], ROOM_DST);
-    r->list_len = at_most(c->word[10], ROOM_LIST);
-    size_t at = make_image(c, 11, r->image);
+    make_settings(c, r->settings);
+    r->image_len = at_most(c->word[9], ROOM_IMAGE);
+    r->dst_len = at_most(c->word[10], ROOM_DST);
+    r->list_len = at_most(c->word[11], ROOM_LIST);
+    make_list(c, 12, r->list);
+    make_image(c, 13 + c->word[12], r->image);
     for (unsigned i = 0; i < ROOM_DST; i++) r->dst[i] = cell_of();
-    make_list(c, at, r->list);
 }
 
 void ind_make_lane(const struct numbers *c, struct lane_case *l)
 {
     uint32_t image[ROOM_IMAGE];
-    memcpy(l->settings, c->word, sizeof l->settings);
-    l->lane = c->word[8];
-    l->even = (uint16_t)c->word[10];
-    l->odd = (uint16_t)c->word[11];
-    memcpy(l->insn, c->word + 12, sizeof l->insn);
-    make_image(c, 18, image);
+    make_settings(c, l->settings);
+    l->lane = c->word[9];
+    l->even = (uint16_t)c->word[11];
+    l->odd = (uint16_t)c->word[12];
+    memcpy(l->insn, c->word + 13, sizeof l->insn);
+    make_image(c, 19, image);
     for (unsigned s = 0; s < SLOTS; s++) {
         l->own[s] = image[LANES * s + l->lane % LANES];
-        l->head[s] = image[LANES * s + c->word[9] % LANES];
+        l->head[s] = image[LANES * s + c->word[10] % LANES];
     }
 }
 
 void ind_make_writing(const struct numbers *c, struct writing_case *w)
 {
-    memcpy(w->settings, c->word, sizeof w->settings);
-    w->list_len = at_most(c->word[8], ROOM_LIST);
-    w->room = at_most(c->word[9], ROOM_TEXT);
-    make_list(c, 10, w->list);
+    make_settings(c, w->settings);
+    w->list_len = at_most(c->word[9], ROOM_LIST);
+    w->room = at_most(c->word[10], ROOM_TEXT);
+    make_list(c, 11, w->list);
 }
 
-static void add_bytes(struct reading_case *r, const struct numbers *from, size_t at, size_t len)
+static void add_bytes(struct reading_case *r, const uint32_t *words, size_t len)
 {
-    for (; len > 0 && r->text_len < ROOM_TEXT; len--) r->text[r->text_len++] = (uint8_t)from->word[at++];
+    for (; len > 0 && r->text_len < ROOM_TEXT; len--) r->text[r->text_len++] = (uint8_t)*words++;
 }
 
 void ind_make_reading(const struct numbers *c, struct reading_case *r)
 {
-    size_t from = 0, at = 2;
-    r->room = at_most(c->word[0], ROOM_LIST);
+    const uint32_t *piece = c->word + 3;
+    uint32_t from = 2, end = kept.word[1];
+    r->room = at_most(c->word[1], ROOM_LIST);
     r->text_len = 0;
-    for (uint32_t pieces = c->word[1]; pieces > 0; pieces--) {
-        uint32_t copied = c->word[at], passed = c->word[at + 1], count = c->word[at + 2], times = c->word[at + 3];
-        add_bytes(r, &kept, from, copied);
-        for (; times > 0; times--) add_bytes(r, c, at + 4, count);
-        from += copied + passed;
-        at += 4 + count;
+    for (uint32_t pieces = c->word[2]; pieces > 0; pieces--) {
+        uint32_t copied = piece[0], next = piece[1], count = piece[2], times = piece[3];
+        add_bytes(r, kept.word + from, copied);
+        for (; times > 0; times--) add_bytes(r, piece + 4, count);
+        from = next;
+        piece += 4 + count;
     }
-    add_bytes(r, &kept, from, kept.count - from);
+    if (from < end) add_bytes(r, kept.word + from, end - from);
 }
 
 bool ind_keep(const struct numbers *c)
 {
-    if (c->kind == TABLE_CASE) table = *c;
-    else if (c->kind == TEXT_CASE) kept = *c;
-    else return false;
+    if (c->word[0] != TEXT_CASE) return false;
+    kept = *c;
     return true;
 }
 
@@ -170,7 +174,7 @@ static int answer(const struct numbers *c, FILE *out)
     uint32_t o[4];
 
     if (ind_keep(c)) return 0;
-    switch (c->kind) {
+    switch (c->word[0]) {
     case RUN_CASE:
         ind_make_run(c, &run);
         ind_run(run.settings, run.image, run.image_len, run.dst, run.dst_len, run.list, run.list_len, o);
@@ -193,9 +197,7 @@ static int answer(const struct numbers *c, FILE *out)
 void ind_answers(FILE *in, FILE *out)
 {
     static struct numbers c;
-    enum next next;
-    while ((next = ind_next(in, &c)) == A_CASE) answer(&c, out);
-    if (next == CUT_OFF) fprintf(out, "a case is cut off\n");
+    while (ind_next(in, &c)) answer(&c, out);
 }
 
 /* The list in the form of a listing, whatever its numbers: one that is in order can be given to replay as it is. */
@@ -231,7 +233,7 @@ static void show(const struct numbers *c, FILE *out)
     static struct lane_case lane;
     static struct writing_case writing;
     static struct reading_case reading;
-    switch (c->kind) {
+    switch (c->word[0]) {
     case RUN_CASE:
         ind_make_run(c, &run);
         show_list(run.settings, run.list, run.list_len, out);
@@ -262,7 +264,7 @@ bool ind_show(FILE *in, uint32_t line, FILE *out)
 {
     static struct numbers c;
     FILE *nowhere = tmpfile();
-    for (uint32_t before = 0; nowhere != NULL && ind_next(in, &c) == A_CASE;) {
+    for (uint32_t before = 0; nowhere != NULL && ind_next(in, &c);) {
         uint32_t lines = (uint32_t)answer(&c, nowhere);
         if (line > before && line <= before + lines) {
             show(&c, out);

@@ -67,8 +67,8 @@ static struct numbers c;
 
 static void begin(uint32_t kind)
 {
-    c.kind = kind;
     c.count = 0;
+    ind_put(&c, kind);
 }
 
 static void put_all(const uint32_t *words, size_t count)
@@ -107,6 +107,12 @@ static void make_list(struct list *l, uint32_t count, uint32_t most)
     l->given = count < most ? count : most;
     l->len = 6 * (size_t)count;
     for (size_t i = 0; i < l->given; i++) make_insn(l->word + 6 * i);
+}
+
+static void put_list(const struct list *l)
+{
+    ind_put(&c, (uint32_t)(6 * l->given));
+    put_all(l->word, 6 * l->given);
 }
 
 /* Damage */
@@ -170,40 +176,50 @@ static int damages(void)
     return t < 1 ? 1 : t < 4 ? 2 : 0;
 }
 
-/* Images: a seed, and rows of lanes that get a word. */
+/* Images: a seed, and words that stand in a row of lanes. */
 
 struct image {
     uint32_t seed, changes, change[8][3];
 };
 
-static void change(struct image *i, uint32_t slot, uint32_t lanes, uint32_t w)
+struct lanes {
+    uint32_t first, count;
+};
+
+static void change(struct image *i, uint32_t slot, struct lanes lanes, uint32_t w)
 {
     uint32_t *row = i->change[i->changes++];
-    row[0] = slot;
-    row[1] = lanes;
+    row[0] = LANES * slot + lanes.first;
+    row[1] = lanes.count;
     row[2] = w;
 }
 
-static uint32_t some_lanes(void)
+static const struct lanes all_lanes = { 0, LANES };
+
+static struct lanes some_lanes(void)
 {
-    uint32_t t = below(4);
-    return t == 0 ? 0xFFFFFFFF : t == 1 ? 0x7Fu << below(8) : t == 2 ? 1u << below(32) : below(16384);
+    struct lanes lanes = { below(LANES), 1 };
+    if (below(3) > 0) lanes.count += below(LANES - lanes.first);
+    return lanes;
 }
 
 static void make_image(struct image *i)
 {
-    i->seed = below(16384);
+    i->seed = 1 + below(16383);
     i->changes = 0;
-    uint32_t configs = below(8), uses = below(4), same = below(16);
-    if (configs < 3) change(i, SLOT_CONFIG, 0xFFFFFFFF, 0);
-    else if (configs < 6) change(i, SLOT_CONFIG, 0xFFFFFFFF, 1u << below(18));
-    if (uses == 0) change(i, SLOT_USE, 0xFFFFFFFF, 0);
+    uint32_t configs = below(8), uses = below(4), same = below(8);
+    if (configs < 3) change(i, SLOT_CONFIG, all_lanes, 0);
+    else if (configs < 6) change(i, SLOT_CONFIG, all_lanes, 1u << below(18));
+    if (uses == 0) change(i, SLOT_USE, all_lanes, 0);
     else if (uses == 1) change(i, SLOT_USE, some_lanes(), below(2));
-    if (same < 2) {
+    if (same == 0) {
         /* Two registers alike, for the ties of SWAP. */
-        uint32_t lanes = some_lanes(), w = special[below(32)], first = below(8);
+        struct lanes lanes = some_lanes();
+        uint32_t w = special[below(32)], first = below(8);
         change(i, first, lanes, w);
         change(i, (first + 1 + below(7)) % 8, lanes, w);
+    } else if (same == 1) {
+        change(i, below(8), some_lanes(), special[below(32)]);
     }
 }
 
@@ -212,7 +228,7 @@ static void damage_image(struct image *i)
     static const uint32_t slots[4] = { SLOT_CONFIG, SLOT_FLAG, SLOT_USE, SLOT_MISC };
     static const uint32_t limit[4] = { 262144, 2, 2, 4096 };
     uint32_t way = below(4), lane = below(32), v = below(3), d = draw();
-    change(i, slots[way], 1u << lane, out_of(limit[way], v, d));
+    change(i, slots[way], (struct lanes){ lane, 1 }, out_of(limit[way], v, d));
 }
 
 static void put_image(const struct image *i)
@@ -264,8 +280,8 @@ static void make_run(void)
     ind_put(&c, image_len);
     ind_put(&c, dst_len);
     ind_put(&c, (uint32_t)list.len);
+    put_list(&list);
     put_image(&image);
-    put_all(list.word, 6 * list.given);
 }
 
 /* Lanes */
@@ -297,7 +313,7 @@ static void make_refused(uint32_t insn[6], uint32_t j)
 
 static void make_lane(uint32_t k)
 {
-    uint32_t settings[8], insn[6], lane = below(32), head = below(2) == 0 ? lane % 8 : below(32);
+    uint32_t settings[8], insn[6], lane = below(32), head = below(2) == 0 ? lane % 8 : below(32), v;
     struct image image;
     make_lane_settings(settings);
     if (k % 5 == 0) make_refused(insn, k / 5);
@@ -309,7 +325,8 @@ static void make_lane(uint32_t k)
         case 1: lane = 32 + (below(2) == 0 ? 0 : draw()); break;
         case 2:
             damage_image(&image);
-            image.change[image.changes - 1][1] = 1u << (below(2) == 0 ? lane : head) % 32;
+            v = image.change[image.changes - 1][0];
+            image.change[image.changes - 1][0] = v - v % LANES + (below(2) == 0 ? lane : head) % LANES;
             break;
         default: damage_insn(insn, 1);
         }
@@ -355,7 +372,7 @@ static void make_writing(void)
     put_all(settings, 8);
     ind_put(&c, (uint32_t)list.len);
     ind_put(&c, (uint32_t)(r < 2 ? needed - 1 : r < 4 ? needed : r == 4 ? v : needed + v));
-    put_all(list.word, 6 * list.given);
+    put_list(&list);
 }
 
 /* Readings: a text is kept, and each reading is of that text with damage. */
@@ -377,6 +394,7 @@ static void make_base(void)
     ind_write(settings, list.word, list.len, base.byte, ROOM_TEXT, outcome);
     base.len = outcome[O_LENGTH];
     begin(TEXT_CASE);
+    ind_put(&c, (uint32_t)(2 + base.len));
     for (size_t i = 0; i < base.len; i++) ind_put(&c, base.byte[i]);
 }
 
@@ -486,12 +504,14 @@ static void lengthen(struct text *t)
 /* The pieces that make one text of another. A line that comes anew three times or more is said once. */
 
 static size_t pieces_at;
+static uint32_t base_at;                    /* the place in the kept case that the next copy begins at */
 
 static void piece(size_t copied, size_t passed, const uint8_t *bytes, size_t count, size_t times)
 {
     c.word[pieces_at]++;
+    base_at += (uint32_t)(copied + passed);
     ind_put(&c, (uint32_t)copied);
-    ind_put(&c, (uint32_t)passed);
+    ind_put(&c, base_at);
     ind_put(&c, (uint32_t)count);
     ind_put(&c, (uint32_t)times);
     for (size_t i = 0; i < count; i++) ind_put(&c, bytes[i]);
@@ -541,6 +561,7 @@ static void put_text(const struct text *t)
 {
     size_t from = 0, to = 0, copied = 0, passed, fresh;
     pieces_at = c.count;
+    base_at = 2;
     ind_put(&c, 0);
     while (from < base.len || to < t->len) {
         if (from < base.len && to < t->len && base.byte[from] == t->byte[to]) {
@@ -569,17 +590,8 @@ static void make_reading(void)
 
 /* All of them. */
 
-static void make_table(void)
-{
-    begin(TABLE_CASE);
-    put_all(special, 32);
-    for (int i = 0; i < 16; i++) ind_put(&c, cells[i]);
-}
-
 void ind_cases(uint32_t seed, uint32_t runs, uint32_t lanes, uint32_t listings, FILE *out)
 {
-    make_table();
-    ind_emit(&c, out);
     for (uint32_t k = 0; k < runs; k++) {
         start(seed, k, 4);
         make_run();

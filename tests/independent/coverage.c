@@ -179,8 +179,8 @@ void ind_coverage(FILE *in, FILE *out)
     static void (*const count[])(const struct numbers *) = {
         [RUN_CASE] = count_run, [LANE_CASE] = count_lane, [WRITING_CASE] = count_writing, [READING_CASE] = count_reading,
     };
-    while (ind_next(in, &c) == A_CASE)
-        if (!ind_keep(&c) && c.kind <= READING_CASE) count[c.kind](&c);
+    while (ind_next(in, &c))
+        if (!ind_keep(&c) && c.word[0] <= READING_CASE) count[c.word[0]](&c);
 
     fprintf(out, "answer     runs    lanes  writing  reading\n");
     for (int a = 0; a < 12; a++)

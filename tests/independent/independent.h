@@ -50,19 +50,18 @@ uint32_t ind_read(const uint8_t *text, size_t text_len, uint32_t *list, size_t l
 uint32_t ind_write(const uint32_t settings[8], const uint32_t *list, size_t list_len, uint8_t *text, size_t text_len, uint32_t outcome[5]);
 void ind_replay(FILE *in, FILE *out);
 
-/* form.c: a case is a kind and its numbers; the largest sizes are in tests/CASES.md. */
-enum { TABLE_CASE, RUN_CASE, LANE_CASE, WRITING_CASE, TEXT_CASE, READING_CASE };
-enum { ROOM_CASE = 70000, ROOM_IMAGE = 1024, ROOM_DST = 16400, ROOM_LIST = 6160, ROOM_TEXT = 65700 };
+/* form.c: a case is its numbers, the first of which is its kind; the largest sizes are in tests/CASES.md. */
+enum { TEXT_CASE, RUN_CASE, LANE_CASE, WRITING_CASE, READING_CASE };
+enum { ROOM_CASE = 4096, ROOM_IMAGE = 1024, ROOM_DST = 16400, ROOM_LIST = 6160, ROOM_TEXT = 65700 };
 
 struct numbers {
-    uint32_t kind, word[ROOM_CASE];
+    uint32_t word[ROOM_CASE];
     size_t count;
 };
 
 void ind_put(struct numbers *c, uint32_t n);
 void ind_emit(const struct numbers *c, FILE *out);
-enum next { NO_CASE, A_CASE, CUT_OFF };
-enum next ind_next(FILE *in, struct numbers *c);
+bool ind_next(FILE *in, struct numbers *c);
 
 /* cases.c */
 void ind_cases(uint32_t seed, uint32_t runs, uint32_t lanes, uint32_t listings, FILE *out);

@@ -1,13 +1,12 @@
 // Lane cases: one instruction in one lane.
 use crate::form::CASE;
+use crate::form::settings_of;
 use crate::lines::NOTHING;
 use crate::lines::checksum;
 use crate::lines::print;
 use crate::made::IMAGE;
 use crate::made::make_image;
-use lane::Insn;
-use lane::step::step_lane;
-use listing::reader::settings_of;
+use host::replay_lane;
 
 // One lane's words, out of an image.
 fn lane_words(image: &[u32; IMAGE], lane: u32) -> [u32; 24] {
@@ -20,38 +19,24 @@ fn lane_words(image: &[u32; IMAGE], lane: u32) -> [u32; 24] {
     words
 }
 
-fn insn_of(case: &[u32; CASE]) -> Insn {
-    Insn {
-        op: case[12],
-        imm: case[13],
-        vb: case[14],
-        vc: case[15],
-        vd: case[16],
-        md: case[17],
-    }
+fn insn_of(case: &[u32; CASE]) -> [u32; 6] {
+    [case[13], case[14], case[15], case[16], case[17], case[18]]
 }
 
-fn step_and_print(case: &[u32; CASE], own: [u32; 24], head: [u32; 24]) {
-    let stepped = step_lane(
-        settings_of(case),
-        case[8],
-        insn_of(case),
-        own,
-        head,
-        (case[10] % 65536) as u16,
-        (case[11] % 65536) as u16,
-    );
-    let words = stepped.words;
-    print(b"lane ", &[stepped.answer], checksum(NOTHING, &words));
+fn step_and_print(case: &[u32; CASE], own: &mut [u32; 24], head: &[u32; 24]) {
+    let settings = settings_of(case);
+    let insn = insn_of(case);
+    let even = (case[11] % 65536) as u16;
+    let odd = (case[12] % 65536) as u16;
+    let answer = replay_lane(&settings, case[9], &insn, own, head, even, odd);
+    print(b"lane ", &[answer], checksum(NOTHING, own));
 }
 
 // Settings, the lane, the lane of row 0, two cells, the instruction, and the image that has the two lanes.
-pub(crate) fn lane_case(case: &[u32; CASE], table: &[u32; CASE]) {
+pub(crate) fn lane_case(case: &[u32; CASE]) {
     let mut image = [0u32; IMAGE];
-    make_image(case, 18, table, &mut image);
-    step_and_print(
-        case,
-        lane_words(&image, case[8]),
-        lane_words(&image, case[9]),
-    );
+    make_image(case, 19, &mut image);
+    let mut own = lane_words(&image, case[9]);
+    let head = lane_words(&image, case[10]);
+    step_and_print(case, &mut own, &head);
 }

@@ -1,10 +1,17 @@
 // The lines that are printed, and the checksums in them.
 use crate::form::of_byte;
-use crate::form::wide;
 use libc::STDOUT_FILENO;
+ghost use Prim.Native.Nat.{_<_};
 
 // What a checksum begins with.
 pub const NOTHING: u32 = 2166136261;
+
+// A word with room above it.
+fn wide(w: u32) -> u64
+    ensures { λ r. ⌜ r < 4294967296 ⌝ }
+{
+    w as u64
+}
 
 fn mixed(h: u32, w: u32) -> u32 {
     (wide(h ^ w) * 16777619 % 4294967296) as u32
@@ -31,18 +38,13 @@ pub(crate) fn byte_checksum(bytes: &[u8]) -> u32 {
     h
 }
 
-// A number in decimal, and a space.
-fn print_number(n: u32) {
-    io::print_decimal(STDOUT_FILENO, n as u64);
-    io::write_all(STDOUT_FILENO, b" ");
-}
-
 // A line on standard output: what was called, the numbers that it answered, and the checksum of what was lent.
 pub(crate) fn print(name: &[u8], numbers: &[u32], sum: u32) {
     io::write_all(STDOUT_FILENO, name);
     let mut i: usize = 0;
     while i < numbers.len() {
-        print_number(numbers[i]);
+        io::print_decimal(STDOUT_FILENO, wide(numbers[i]));
+        io::write_all(STDOUT_FILENO, b" ");
         i += 1;
     }
     io::print_hex(STDOUT_FILENO, sum as u64, 8);

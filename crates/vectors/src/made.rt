@@ -1,9 +1,8 @@
-// Images and Dsts by a seed, their words and cells out of a table of telling ones and the generator's own; and lists.
+// Images and Dsts by a seed, and lists.
 use crate::at_most;
 use crate::form::CASE;
-use crate::form::wide;
+use crate::form::place_at;
 use crate::form::word_at;
-ghost use Prim.Native.Nat.{_<_};
 
 // More words than any image has, more cells than any Dst, and more words than any list.
 pub const IMAGE: usize = 1024;
@@ -12,23 +11,26 @@ pub const DST: usize = 16400;
 
 pub const LIST: usize = 6160;
 
-// The next 16 bits.
-fn draw(x: &mut u32) -> u32
-    ensures { λ r. ⌜ r < 65536 ⌝ }
-{
-    let next = (wide(*x) * 1664525 + 1013904223) % 4294967296;
-    *x = next as u32;
-    (next / 65536) as u32
+// The generator's next word.
+fn draw(x: &mut u32) -> u32 {
+    let a = *x ^ (*x << 13);
+    let b = a ^ (a >> 17);
+    let c = b ^ (b << 5);
+    *x = c;
+    c
 }
 
-// One of the table's 32 words, or two draws, the first in the high half.
-fn any_word(x: &mut u32, table: &[u32; CASE]) -> u32 {
-    let d = draw(x);
-    if d % 4 == 0 {
-        return table[(d / 4 % 32) as usize];
+// A word of one of eight shapes: a zero, a number too small for its exponent, an infinity or NaN, a small whole number; or any.
+fn any_word(x: &mut u32) -> u32 {
+    let shape = draw(x) % 8;
+    let word = draw(x);
+    match shape {
+        0 => word & 0x80000000,
+        1 => word & 0x807FFFFF,
+        2 => word | 0x7F800000,
+        3 => word % 16,
+        _ => word,
     }
-    let high = draw(x);
-    high * 65536 + draw(x)
 }
 
 // A word that may stand in its slot.
@@ -42,90 +44,63 @@ fn slot_word(slot: usize, word: u32) -> u32 {
     }
 }
 
-fn fill_image(x: &mut u32, table: &[u32; CASE], image: &mut [u32; IMAGE]) {
+fn fill_image(x: &mut u32, image: &mut [u32; IMAGE]) {
     let mut i: usize = 0;
     while i < IMAGE {
-        image[i] = slot_word(i / 32, any_word(x, table));
+        image[i] = slot_word(i / 32, any_word(x));
         i += 1;
     }
 }
 
-fn set_word_if(test: bool, image: &mut [u32; IMAGE], at: usize, word: u32) {
-    if test {
-        if at < IMAGE {
-            image[at] = word;
-        }
+// A word at so many places from the first on.
+fn put_words(image: &mut [u32; IMAGE], first: usize, count: usize, word: u32) {
+    let end = at_most(at_most(first, IMAGE) + at_most(count, IMAGE), IMAGE);
+    let mut at = first;
+    while at < end {
+        image[at] = word;
+        at += 1;
     }
 }
 
-// A word for the lanes of a mask, in one slot.
-fn put_row(image: &mut [u32; IMAGE], slot: usize, lanes: u32, word: u32) {
-    let base = 32 * at_most(slot, 32);
-    let mut left = lanes;
-    let mut lane: usize = 0;
-    while lane < 32 {
-        set_word_if(left % 2 == 1, image, base + lane, word);
-        left /= 2;
-        lane += 1;
-    }
-}
-
-// So many changes to an image, each its slot, its mask of lanes and its word; the place after them.
-fn put_rows(case: &[u32; CASE], from: usize, count: usize, image: &mut [u32; IMAGE]) -> usize {
-    let mut at = at_most(from, CASE);
-    let mut left = at_most(count, CASE);
+// An image at a place of a case: its seed, how many changes, and of each its first place, how many and the word. The generator's state afterwards.
+pub(crate) fn make_image(case: &[u32; CASE], seed: usize, image: &mut [u32; IMAGE]) -> u32 {
+    let from = at_most(seed, CASE);
+    let mut x = word_at(case, from);
+    fill_image(&mut x, image);
+    let mut at = from + 2;
+    let mut left = place_at(case, from + 1, CASE);
     while left > 0 {
-        put_row(
-            image,
-            word_at(case, at) as usize,
-            word_at(case, at + 1),
-            word_at(case, at + 2),
-        );
+        let first = place_at(case, at, IMAGE);
+        let count = place_at(case, at + 1, IMAGE);
+        put_words(image, first, count, word_at(case, at + 2));
         at += 3;
         left -= 1;
     }
-    at
+    x
 }
 
-// An image, at a place of a case: its seed, how many changes, and these. The generator's state after the seed, and the place after the image.
-pub(crate) struct Made {
-    pub(crate) x: u32,
-    pub(crate) next: usize,
-}
-
-pub(crate) fn make_image(
-    case: &[u32; CASE],
-    at: usize,
-    table: &[u32; CASE],
-    image: &mut [u32; IMAGE],
-) -> Made {
-    let from = at_most(at, CASE);
-    let mut x = word_at(case, from);
-    fill_image(&mut x, table, image);
-    let next = put_rows(case, from + 2, word_at(case, from + 1) as usize, image);
-    Made { x, next }
-}
-
-// One of the table's 16 cells, or a draw.
-fn cell(x: &mut u32, table: &[u32; CASE]) -> u16 {
-    let d = draw(x);
-    if *x / 8192 % 8 == 0 {
-        return (table[(32 + d % 16) as usize] % 65536) as u16;
+// A cell of one of eight shapes: a zero, all ones but for the sign, or any.
+fn cell(x: &mut u32) -> u16 {
+    let word = draw(x);
+    let d = (word % 65536) as u16;
+    match word / 65536 % 8 {
+        0 => d & 0x8000,
+        1 => d | 0x7FFF,
+        _ => d,
     }
-    d as u16
 }
 
 // A Dst, from the state that its image left.
-pub(crate) fn make_dst(state: u32, table: &[u32; CASE], dst: &mut [u16; DST]) {
+pub(crate) fn make_dst(state: u32, dst: &mut [u16; DST]) {
     let mut x = state;
     let mut i: usize = 0;
     while i < DST {
-        dst[i] = cell(&mut x, table);
+        dst[i] = cell(&mut x);
         i += 1;
     }
 }
 
-// The word of a case at a place, or so many past it as `i` is past the last repetition.
+// Word `i` of a list of which so many words are given, from a place on, and repeat.
 fn repeated(case: &[u32; CASE], from: usize, given: usize, i: usize) -> u32 {
     if given == 0 {
         return 0;
@@ -133,12 +108,13 @@ fn repeated(case: &[u32; CASE], from: usize, given: usize, i: usize) -> u32 {
     word_at(case, at_most(from, CASE) + at_most(i % given, CASE))
 }
 
-// A list: the words of a case from a place up to its end, which repeat.
-pub(crate) fn make_list(case: &[u32; CASE], from: usize, end: usize, list: &mut [u32; LIST]) {
-    let given = if from < end { end - from } else { 0 };
+// A list at a place of a case: how many words are given, and these, which repeat.
+pub(crate) fn make_list(case: &[u32; CASE], place: usize, list: &mut [u32; LIST]) {
+    let from = at_most(place, CASE);
+    let given = place_at(case, from, LIST);
     let mut i: usize = 0;
     while i < LIST {
-        list[i] = repeated(case, from, given, i);
+        list[i] = repeated(case, from + 1, given, i);
         i += 1;
     }
 }

@@ -1,7 +1,7 @@
 // Run cases: a list over an image and a Dst.
-use crate::at_most;
 use crate::form::CASE;
-use crate::form::word_at;
+use crate::form::place_at;
+use crate::form::settings_of;
 use crate::lines::NOTHING;
 use crate::lines::checksum;
 use crate::lines::print;
@@ -11,26 +11,22 @@ use crate::made::LIST;
 use crate::made::make_dst;
 use crate::made::make_image;
 use crate::made::make_list;
-use lane::Settings;
-use listing::reader::settings_of;
-use runner::run::run;
+use host::replay_run;
 
-fn run_and_print(s: Settings, image: &mut [u32], dst: &[u16], list: &[u32]) {
-    let o = run(s, image, dst, list);
-    print(
-        b"run ",
-        &[o.answer, o.steps, o.place, o.cursor],
-        checksum(NOTHING, image),
-    );
+fn run_and_print(settings: &[u32; 8], image: &mut [u32], dst: &[u16], list: &[u32]) {
+    let mut outcome = [0u32; 4];
+    replay_run(settings, image, dst, list, &mut outcome);
+    print(b"run ", &outcome, checksum(NOTHING, image));
 }
 
-// The run over as much of each array as the case says: words 8 to 10 are the lengths.
-fn run_lent(s: Settings, case: &[u32; CASE], image: &mut [u32], dst: &[u16], list: &[u32]) {
-    let image_length = at_most(word_at(case, 8) as usize, image.len());
-    let dst_length = at_most(word_at(case, 9) as usize, dst.len());
-    let list_length = at_most(word_at(case, 10) as usize, list.len());
+// The run over as much of each array as the case says: words 9 to 11 are the lengths.
+fn run_lent(case: &[u32; CASE], image: &mut [u32], dst: &[u16], list: &[u32]) {
+    let settings = settings_of(case);
+    let image_length = place_at(case, 9, image.len());
+    let dst_length = place_at(case, 10, dst.len());
+    let list_length = place_at(case, 11, list.len());
     run_and_print(
-        s,
+        &settings,
         &mut image[..image_length],
         &dst[..dst_length],
         &list[..list_length],
@@ -38,16 +34,16 @@ fn run_lent(s: Settings, case: &[u32; CASE], image: &mut [u32], dst: &[u16], lis
 }
 
 fn run_made(case: &[u32; CASE], image: &mut [u32; IMAGE], dst: &[u16; DST], list: &[u32; LIST]) {
-    run_lent(settings_of(case), case, image, dst, list);
+    run_lent(case, image, dst, list);
 }
 
-// Settings, three lengths, the image, and the list.
-pub(crate) fn run_case(case: &[u32; CASE], count: usize, table: &[u32; CASE]) {
+// Settings, three lengths, the list, and the image.
+pub(crate) fn run_case(case: &[u32; CASE]) {
     let mut list = [0u32; LIST];
     let mut image = [0u32; IMAGE];
     let mut dst = [0u16; DST];
-    let made = make_image(case, 11, table, &mut image);
-    make_dst(made.x, table, &mut dst);
-    make_list(case, made.next, count, &mut list);
+    make_list(case, 12, &mut list);
+    let x = make_image(case, 13 + place_at(case, 12, LIST), &mut image);
+    make_dst(x, &mut dst);
     run_made(case, &mut image, &dst, &list);
 }

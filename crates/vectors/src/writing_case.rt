@@ -1,47 +1,40 @@
 // Writing cases: a list written as a listing.
 use crate::at_most;
 use crate::form::CASE;
-use crate::form::word_at;
+use crate::form::place_at;
+use crate::form::settings_of;
 use crate::lines::byte_checksum;
 use crate::lines::print;
 use crate::made::LIST;
 use crate::made::make_list;
 use crate::reading_case::TEXT;
-use lane::Settings;
-use listing::reader::settings_of;
-use listing::writer::write;
+use host::replay_write;
 
-// A length, as a number to print.
-pub(crate) fn length_word(length: usize) -> u32 {
-    (length % 4294967296) as u32
-}
-
-fn write_and_print(s: Settings, list: &[u32], room: &mut [u8]) {
-    let o = write(s, list, room);
-    print(
-        b"write ",
-        &[o.answer, o.steps, o.place, o.cursor, length_word(o.length)],
-        byte_checksum(room),
-    );
+fn write_and_print(settings: &[u32; 8], list: &[u32], room: &mut [u8]) {
+    let mut outcome = [0u32; 5];
+    replay_write(settings, list, room, &mut outcome);
+    print(b"write ", &outcome, byte_checksum(room));
 }
 
 // A writing of so many words into so many bytes.
-pub(crate) fn write_lent(s: Settings, list: &[u32], words: usize, room: &mut [u8], bytes: usize) {
+fn write_lent(settings: &[u32; 8], list: &[u32], words: usize, room: &mut [u8], bytes: usize) {
     let list_length = at_most(words, list.len());
     let room_length = at_most(bytes, room.len());
-    write_and_print(s, &list[..list_length], &mut room[..room_length]);
+    write_and_print(settings, &list[..list_length], &mut room[..room_length]);
 }
 
-fn write_made(case: &[u32; CASE], list: &[u32; LIST], room: &mut [u8; TEXT]) {
-    let words = word_at(case, 8) as usize;
-    let bytes = word_at(case, 9) as usize;
-    write_lent(settings_of(case), list, words, room, bytes);
+// A writing of so many words of a list into a room of so many bytes.
+pub(crate) fn write_into(settings: &[u32; 8], list: &[u32; LIST], words: usize, bytes: usize) {
+    let mut room = [165u8; TEXT];
+    write_lent(settings, list, words, &mut room, bytes);
 }
 
 // Settings, the list's length, the room's, and the list.
-pub(crate) fn writing_case(case: &[u32; CASE], count: usize) {
+pub(crate) fn writing_case(case: &[u32; CASE]) {
     let mut list = [0u32; LIST];
-    let mut room = [165u8; TEXT];
-    make_list(case, 10, count, &mut list);
-    write_made(case, &list, &mut room);
+    make_list(case, 11, &mut list);
+    let settings = settings_of(case);
+    let words = place_at(case, 9, LIST);
+    let bytes = place_at(case, 10, TEXT);
+    write_into(&settings, &list, words, bytes);
 }

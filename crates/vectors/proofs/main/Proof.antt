@@ -4,10 +4,10 @@ use Rattle.vectors.proofs.main.Statement.{statement}
 use Rattle.vectors.proofs.main.Tie as tie
 
 abbrev Inv-loop : tie.InvT-loop
-Inv-loop body₀ case₀ table₀ kept₀ n₀ left₀ body case table kept n left = Unit {0}
+Inv-loop case₀ kept₀ left₀ case kept left = Unit {0}
 
 abbrev μ-loop : tie.MeasureT-loop
-μ-loop body₀ case₀ table₀ kept₀ n₀ left₀ body case table kept n left = left
+μ-loop case₀ kept₀ left₀ case kept left = left
 
 loop-holds : tie.Need-loop-holds Inv-loop μ-loop
 loop-holds c = search needs
@@ -17,12 +17,6 @@ next-case-requires c κs = search needs
 
 returns : tie.Need-returns Inv-loop μ-loop
 returns c = search needs
-
-cast-numbers : tie.Need-cast-numbers Inv-loop μ-loop
-cast-numbers c = search needs
-
-numbers-requires : tie.Need-numbers-requires Inv-loop μ-loop
-numbers-requires c κs = search needs
 
 one-case-requires : tie.Need-one-case-requires Inv-loop μ-loop
 one-case-requires c κs = search needs
@@ -48,8 +42,6 @@ main-spec =
     loop-holds
     next-case-requires
     returns
-    cast-numbers
-    numbers-requires
     one-case-requires
     sub-left
     loop-less

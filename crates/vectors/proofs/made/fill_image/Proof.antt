@@ -4,10 +4,10 @@ use Rattle.vectors.proofs.made.fill_image.Statement.{statement}
 use Rattle.vectors.proofs.made.fill_image.Tie as tie
 
 abbrev Inv-loop : tie.InvT-loop
-Inv-loop x₀ table image₀ i₀ x image i = i ≤ 1024
+Inv-loop x₀ image₀ i₀ x image i = i ≤ 1024
 
 abbrev μ-loop : tie.MeasureT-loop
-μ-loop x₀ table image₀ i₀ x image i = 1024 - i
+μ-loop x₀ image₀ i₀ x image i = 1024 - i
 
 loop-holds : tie.Need-loop-holds Inv-loop μ-loop
 loop-holds c = search needs

@@ -4,10 +4,10 @@ use Rattle.vectors.proofs.made.make_dst.Statement.{statement}
 use Rattle.vectors.proofs.made.make_dst.Tie as tie
 
 abbrev Inv-loop : tie.InvT-loop
-Inv-loop state table dst₀ x₀ i₀ dst x i = i ≤ 16400
+Inv-loop state dst₀ x₀ i₀ dst x i = i ≤ 16400
 
 abbrev μ-loop : tie.MeasureT-loop
-μ-loop state table dst₀ x₀ i₀ dst x i = 16400 - i
+μ-loop state dst₀ x₀ i₀ dst x i = 16400 - i
 
 loop-holds : tie.Need-loop-holds Inv-loop μ-loop
 loop-holds c = search needs

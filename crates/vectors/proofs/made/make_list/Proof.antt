@@ -4,16 +4,22 @@ use Rattle.vectors.proofs.made.make_list.Statement.{statement}
 use Rattle.vectors.proofs.made.make_list.Tie as tie
 
 abbrev Inv-loop : tie.InvT-loop
-Inv-loop case from end list₀ given i₀ list i = i ≤ 6160
+Inv-loop case place list₀ from given i₀ list i = i ≤ 6160
 
 abbrev μ-loop : tie.MeasureT-loop
-μ-loop case from end list₀ given i₀ list i = 6160 - i
+μ-loop case place list₀ from given i₀ list i = 6160 - i
 
-sub-given : tie.Need-sub-given Inv-loop μ-loop
-sub-given c = search needs
+at-most-requires : tie.Need-at-most-requires Inv-loop μ-loop
+at-most-requires c κs = search needs
+
+place-at-requires : tie.Need-place-at-requires Inv-loop μ-loop
+place-at-requires c κs = search needs
 
 loop-holds : tie.Need-loop-holds Inv-loop μ-loop
 loop-holds c = search needs
+
+add-repeated : tie.Need-add-repeated Inv-loop μ-loop
+add-repeated c = search needs
 
 repeated-requires : tie.Need-repeated-requires Inv-loop μ-loop
 repeated-requires c κs = search needs
@@ -42,8 +48,10 @@ make-list-spec =
     (tie.spec
     Inv-loop
     μ-loop
-    sub-given
+    at-most-requires
+    place-at-requires
     loop-holds
+    add-repeated
     repeated-requires
     mul-list
     element-write-list

@@ -4,7 +4,7 @@ use Rattle.vectors.proofs.reading_case.copy.Statement.{statement}
 use Rattle.vectors.proofs.reading_case.copy.Tie as tie
 
 abbrev Inv-loop : tie.InvT-loop
-Inv-loop bytes from count text₀ to from' count' to' i₀ text i = (i ≤ count') × ((from' ≤ 70000) × ((to' ≤ 65700) × (count' ≤ 70000)))
+Inv-loop bytes from count text₀ to from' count' to' i₀ text i = (i ≤ count') × ((from' ≤ 4096) × ((to' ≤ 65700) × (count' ≤ 4096)))
 
 abbrev μ-loop : tie.MeasureT-loop
 μ-loop bytes from count text₀ to from' count' to' i₀ text i = count' - i

@@ -1,0 +1,41 @@
+use Prim.Native.Nat.{_*_}
+use borrow.Author.Needs.{needs}
+use mathlib.Core.Path.{sym, ap}
+use lib.ListN.{length}
+use Rattle.host.specs.Words.{outcomeWords}
+use Rattle.vectors.proofs.run_case.run_and_print.Statement.{statement}
+use Rattle.vectors.proofs.run_case.run_and_print.Tie as tie
+
+replay-run-requires : tie.Need-replay-run-requires
+replay-run-requires c κs = search needs
+
+slice-aggregate-print : tie.Need-slice-aggregate-print
+slice-aggregate-print c = search needs
+
+slice-aggregate-print-2 : tie.Need-slice-aggregate-print-2
+unfolding outcomeWords
+slice-aggregate-print-2 c = sym (ap length (c .before .before .before .before .replay-run .ensures .1 .0))
+
+checksum-requires : tie.Need-checksum-requires
+checksum-requires c κs = search needs
+
+print-requires : tie.Need-print-requires
+print-requires c κs = search needs
+
+same-length : tie.Need-same-length
+same-length c = search needs
+
+returns : tie.Need-returns
+returns c = search needs
+
+pub run-and-print-spec : {M : Type 1} → statement M
+run-and-print-spec =
+    tie.close
+    (tie.spec
+    replay-run-requires
+    slice-aggregate-print
+    slice-aggregate-print-2
+    checksum-requires
+    print-requires
+    same-length
+    returns)
