@@ -63,17 +63,13 @@ static void start(uint32_t seed, uint32_t k, int thrown_away)
 
 /* Pieces. Small numbers take fewer bytes, so most are small. */
 
-static struct numbers c;
+static FILE *out;
 
-static void begin(uint32_t kind)
-{
-    c.count = 0;
-    ind_put(&c, kind);
-}
+static void put(uint32_t n) { ind_put(out, n); }
 
 static void put_all(const uint32_t *words, size_t count)
 {
-    for (size_t i = 0; i < count; i++) ind_put(&c, words[i]);
+    for (size_t i = 0; i < count; i++) put(words[i]);
 }
 
 static void make_settings(uint32_t settings[8])
@@ -111,7 +107,7 @@ static void make_list(struct list *l, uint32_t count, uint32_t most)
 
 static void put_list(const struct list *l)
 {
-    ind_put(&c, (uint32_t)(6 * l->given));
+    put((uint32_t)(6 * l->given));
     put_all(l->word, 6 * l->given);
 }
 
@@ -233,8 +229,8 @@ static void damage_image(struct image *i)
 
 static void put_image(const struct image *i)
 {
-    ind_put(&c, i->seed);
-    ind_put(&c, i->changes);
+    put(i->seed);
+    put(i->changes);
     put_all(i->change[0], 3 * (size_t)i->changes);
 }
 
@@ -275,13 +271,13 @@ static void make_run(void)
         default: damage_insn(list.word, list.given);
         }
     }
-    begin(RUN_CASE);
+    put(RUN_CASE);
     put_all(settings, 8);
-    ind_put(&c, image_len);
-    ind_put(&c, dst_len);
-    ind_put(&c, (uint32_t)list.len);
     put_list(&list);
     put_image(&image);
+    put(image_len);
+    put(dst_len);
+    put((uint32_t)list.len);
 }
 
 /* Lanes */
@@ -331,14 +327,14 @@ static void make_lane(uint32_t k)
         default: damage_insn(insn, 1);
         }
     }
-    begin(LANE_CASE);
+    put(LANE_CASE);
     put_all(settings, 8);
-    ind_put(&c, lane);
-    ind_put(&c, head);
-    ind_put(&c, cell());
-    ind_put(&c, cell());
     put_all(insn, 6);
     put_image(&image);
+    put(lane);
+    put(head);
+    put(cell());
+    put(cell());
 }
 
 /* Writings */
@@ -368,11 +364,11 @@ static void make_writing(void)
     }
     r = below(16), v = below(64);
     size_t needed = bytes_needed(&list);
-    begin(WRITING_CASE);
+    put(WRITING_CASE);
     put_all(settings, 8);
-    ind_put(&c, (uint32_t)list.len);
-    ind_put(&c, (uint32_t)(r < 2 ? needed - 1 : r < 4 ? needed : r == 4 ? v : needed + v));
     put_list(&list);
+    put((uint32_t)list.len);
+    put((uint32_t)(r < 2 ? needed - 1 : r < 4 ? needed : r == 4 ? v : needed + v));
 }
 
 /* Readings: a text is kept, and each reading is of that text with damage. */
@@ -393,9 +389,9 @@ static void make_base(void)
     make_list(&list, (uint32_t)base.count, 6);
     ind_write(settings, list.word, list.len, base.byte, ROOM_TEXT, outcome);
     base.len = outcome[O_LENGTH];
-    begin(TEXT_CASE);
-    ind_put(&c, (uint32_t)(2 + base.len));
-    for (size_t i = 0; i < base.len; i++) ind_put(&c, base.byte[i]);
+    put(TEXT_CASE);
+    put((uint32_t)base.len);
+    for (size_t i = 0; i < base.len; i++) put(base.byte[i]);
 }
 
 static size_t find_line(const struct text *t, uint32_t m)
@@ -503,18 +499,33 @@ static void lengthen(struct text *t)
 
 /* The pieces that make one text of another. A line that comes anew three times or more is said once. */
 
-static size_t pieces_at;
-static uint32_t base_at;                    /* the place in the kept case that the next copy begins at */
+/* They are held until their number is known. */
+static struct {
+    size_t copied, next, all, given;
+    const uint8_t *bytes;
+} pieces[64];
+static size_t piece_count, base_at;         /* base_at: where in the kept text the next copy begins */
 
-static void piece(size_t copied, size_t passed, const uint8_t *bytes, size_t count, size_t times)
+static void piece(size_t copied, size_t passed, const uint8_t *bytes, size_t given, size_t times)
 {
-    c.word[pieces_at]++;
-    base_at += (uint32_t)(copied + passed);
-    ind_put(&c, (uint32_t)copied);
-    ind_put(&c, base_at);
-    ind_put(&c, (uint32_t)count);
-    ind_put(&c, (uint32_t)times);
-    for (size_t i = 0; i < count; i++) ind_put(&c, bytes[i]);
+    base_at += copied + passed;
+    pieces[piece_count].copied = copied;
+    pieces[piece_count].next = base_at;
+    pieces[piece_count].all = given * times;
+    pieces[piece_count].given = given;
+    pieces[piece_count++].bytes = bytes;
+}
+
+static void put_pieces(void)
+{
+    put((uint32_t)piece_count);
+    for (size_t i = 0; i < piece_count; i++) {
+        put((uint32_t)pieces[i].copied);
+        put((uint32_t)pieces[i].next);
+        put((uint32_t)pieces[i].all);
+        put((uint32_t)pieces[i].given);
+        for (size_t j = 0; j < pieces[i].given; j++) put(pieces[i].bytes[j]);
+    }
 }
 
 static size_t repeats(const uint8_t *bytes, size_t len, size_t period)
@@ -560,9 +571,7 @@ static bool meet(const uint8_t *a, size_t a_len, const uint8_t *b, size_t b_len,
 static void put_text(const struct text *t)
 {
     size_t from = 0, to = 0, copied = 0, passed, fresh;
-    pieces_at = c.count;
-    base_at = 2;
-    ind_put(&c, 0);
+    piece_count = base_at = 0;
     while (from < base.len || to < t->len) {
         if (from < base.len && to < t->len && base.byte[from] == t->byte[to]) {
             from++, to++, copied++;
@@ -572,6 +581,7 @@ static void put_text(const struct text *t)
         put_new(copied, passed, t->byte + to, fresh);
         from += passed, to += fresh, copied = 0;
     }
+    put_pieces();
 }
 
 static void make_reading(void)
@@ -583,33 +593,28 @@ static void make_reading(void)
     uint32_t n = below(8), r, v;
     for (n = n < 2 ? 0 : n < 5 ? 1 : 2; n > 0; n--) damage_text(&t);
     r = below(16), v = below(16);
-    begin(READING_CASE);
-    ind_put(&c, (uint32_t)(r == 2 ? v : r == 0 && words > 0 ? words - 1 : r == 1 ? words : words + v));
+    put(READING_CASE);
     put_text(&t);
+    put((uint32_t)(r == 2 ? v : r == 0 && words > 0 ? words - 1 : r == 1 ? words : words + v));
 }
 
 /* All of them. */
 
-void ind_cases(uint32_t seed, uint32_t runs, uint32_t lanes, uint32_t listings, FILE *out)
+void ind_cases(uint32_t seed, uint32_t runs, uint32_t lanes, uint32_t listings, FILE *to)
 {
+    out = to;
     for (uint32_t k = 0; k < runs; k++) {
         start(seed, k, 4);
         make_run();
-        ind_emit(&c, out);
     }
     for (uint32_t k = 0; k < lanes; k++) {
         start(seed, k, 8);
         make_lane(k);
-        ind_emit(&c, out);
     }
     for (uint32_t k = 0; k < listings; k++) {
         start(seed, k, 12);
-        if (k % 25 == 0) {
-            make_base();
-            ind_emit(&c, out);
-        }
+        if (k % 25 == 0) make_base();
         if (k % 5 == 4) make_writing();
         else make_reading();
-        ind_emit(&c, out);
     }
 }

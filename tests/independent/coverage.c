@@ -112,15 +112,15 @@ static void count_answer(int where, uint32_t answer, const uint32_t *insn)
 }
 
 /* A run is done an instruction at a time, so that the image before each can be looked at. */
-static void count_run(const struct numbers *c)
+static void count_run(const struct run_case *c)
 {
     static struct run_case r;
     uint32_t o[4];
-    ind_make_run(c, &r);
+    r = *c;
     ind_run(r.settings, r.image, r.image_len, r.dst, r.dst_len, r.list, r.list_len, o);
     count_answer(0, o[O_ANSWER], r.list + 6 * o[O_PLACE]);
     if (o[O_ANSWER] != 0) return;
-    ind_make_run(c, &r);
+    r = *c;
     for (size_t i = 0; i < r.list_len; i += 6) {
         count_done(r.settings, r.list + i, r.image, LANES);
         ind_run(r.settings, r.image, r.image_len, r.dst, r.dst_len, r.list + i, 6, o);
@@ -128,34 +128,38 @@ static void count_run(const struct numbers *c)
     }
 }
 
-static void count_lane(const struct numbers *c)
+static void count_lane(const struct lane_case *l)
 {
-    struct lane_case l;
     uint32_t own[SLOTS];
-    ind_make_lane(c, &l);
-    memcpy(own, l.own, sizeof own);
-    uint32_t answer = ind_lane(l.settings, l.lane, l.insn, own, l.head, l.even, l.odd);
-    count_answer(1, answer, l.insn);
-    if (answer == 0) count_done(l.settings, l.insn, l.own, 1);
+    memcpy(own, l->own, sizeof own);
+    uint32_t answer = ind_lane(l->settings, l->lane, l->insn, own, l->head, l->even, l->odd);
+    count_answer(1, answer, l->insn);
+    if (answer == 0) count_done(l->settings, l->insn, l->own, 1);
 }
 
-static void count_writing(const struct numbers *c)
+static void count_writing(const struct writing_case *w)
 {
-    static struct writing_case w;
     static uint8_t text[ROOM_TEXT];
     uint32_t o[5];
-    ind_make_writing(c, &w);
-    ind_write(w.settings, w.list, w.list_len, text, w.room, o);
-    count_answer(2, o[O_ANSWER], w.list + 6 * o[O_PLACE]);
+    ind_write(w->settings, w->list, w->list_len, text, w->room, o);
+    count_answer(2, o[O_ANSWER], w->list + 6 * o[O_PLACE]);
 }
 
-static void count_reading(const struct numbers *c)
+static void count_reading(const struct reading_case *r)
 {
-    static struct reading_case r;
     static uint32_t list[ROOM_LIST];
     uint32_t settings[8], o[5];
-    ind_make_reading(c, &r);
-    count_answer(3, ind_read(r.text, r.text_len, list, r.room, settings, o), NULL);
+    count_answer(3, ind_read(r->text, r->text_len, list, r->room, settings, o), NULL);
+}
+
+static void count_case(const struct any_case *c)
+{
+    switch (c->kind) {
+    case RUN_CASE:     count_run(&c->run); break;
+    case LANE_CASE:    count_lane(&c->lane); break;
+    case WRITING_CASE: count_writing(&c->writing); break;
+    default:           count_reading(&c->reading);
+    }
 }
 
 static void print_by(FILE *out, const char *what, const unsigned long *counts, int rows, int width, int first, int columns)
@@ -175,12 +179,8 @@ static void print_by(FILE *out, const char *what, const unsigned long *counts, i
 
 void ind_coverage(FILE *in, FILE *out)
 {
-    static struct numbers c;
-    static void (*const count[])(const struct numbers *) = {
-        [RUN_CASE] = count_run, [LANE_CASE] = count_lane, [WRITING_CASE] = count_writing, [READING_CASE] = count_reading,
-    };
-    while (ind_next(in, &c))
-        if (!ind_keep(&c) && c.word[0] <= READING_CASE) count[c.word[0]](&c);
+    static struct any_case c;
+    while (ind_next(in, &c)) count_case(&c);
 
     fprintf(out, "answer     runs    lanes  writing  reading\n");
     for (int a = 0; a < 12; a++)

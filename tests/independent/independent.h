@@ -50,24 +50,9 @@ uint32_t ind_read(const uint8_t *text, size_t text_len, uint32_t *list, size_t l
 uint32_t ind_write(const uint32_t settings[8], const uint32_t *list, size_t list_len, uint8_t *text, size_t text_len, uint32_t outcome[5]);
 void ind_replay(FILE *in, FILE *out);
 
-/* form.c: a case is its numbers, the first of which is its kind; the largest sizes are in tests/CASES.md. */
-enum { TEXT_CASE, RUN_CASE, LANE_CASE, WRITING_CASE, READING_CASE };
-enum { ROOM_CASE = 4096, ROOM_IMAGE = 1024, ROOM_DST = 16400, ROOM_LIST = 6160, ROOM_TEXT = 65700 };
-
-struct numbers {
-    uint32_t word[ROOM_CASE];
-    size_t count;
-};
-
-void ind_put(struct numbers *c, uint32_t n);
-void ind_emit(const struct numbers *c, FILE *out);
-bool ind_next(FILE *in, struct numbers *c);
-
-/* cases.c */
-void ind_cases(uint32_t seed, uint32_t runs, uint32_t lanes, uint32_t listings, FILE *out);
-
-/* answers.c: what a case's numbers say, and what is answered. */
-#define NOTHING 2166136261u     /* the checksum of nothing */
+/* form.c: the largest sizes are in tests/CASES.md. */
+enum { RUN_CASE = 1, LANE_CASE, WRITING_CASE, TEXT_CASE, READING_CASE };
+enum { ROOM_IMAGE = 1024, ROOM_DST = 16400, ROOM_LIST = 6160, ROOM_TEXT = 65700 };
 
 struct run_case {
     uint32_t settings[8], list[ROOM_LIST], image[ROOM_IMAGE];
@@ -90,11 +75,21 @@ struct reading_case {
     size_t text_len, room;
 };
 
-void ind_make_run(const struct numbers *c, struct run_case *r);
-void ind_make_lane(const struct numbers *c, struct lane_case *l);
-void ind_make_writing(const struct numbers *c, struct writing_case *w);
-void ind_make_reading(const struct numbers *c, struct reading_case *r);
-bool ind_keep(const struct numbers *c);                 /* whether the case is one that is kept for those after it */
+struct any_case {
+    uint32_t kind;
+    struct run_case run;
+    struct lane_case lane;
+    struct writing_case writing;
+    struct reading_case reading;
+};
+
+void ind_put(FILE *out, uint32_t n);
+bool ind_next(FILE *from, struct any_case *c);          /* whether there is one more; a text is kept, and passed over */
+
+/* cases.c */
+void ind_cases(uint32_t seed, uint32_t runs, uint32_t lanes, uint32_t listings, FILE *out);
+
+/* answers.c */
 void ind_answers(FILE *in, FILE *out);
 bool ind_show(FILE *in, uint32_t line, FILE *out);      /* the case of that line of the answers, from 1 */
 

@@ -1,6 +1,6 @@
 // Lane cases: one instruction in one lane.
-use crate::form::CASE;
-use crate::form::settings_of;
+use crate::form::number;
+use crate::form::settings;
 use crate::lines::NOTHING;
 use crate::lines::checksum;
 use crate::lines::print;
@@ -11,32 +11,43 @@ use host::replay_lane;
 // One lane's words, out of an image.
 fn lane_words(image: &[u32; IMAGE], lane: u32) -> [u32; 24] {
     let mut words = [0u32; 24];
+    let mut at = (lane % 32) as usize;
     let mut slot: usize = 0;
     while slot < 24 {
-        words[slot] = image[32 * slot + (lane % 32) as usize];
+        words[slot] = image[at];
+        at += 32;
         slot += 1;
     }
     words
 }
 
-fn insn_of(case: &[u32; CASE]) -> [u32; 6] {
-    [case[13], case[14], case[15], case[16], case[17], case[18]]
+fn insn() -> [u32; 6] {
+    [number(), number(), number(), number(), number(), number()]
 }
 
-fn step_and_print(case: &[u32; CASE], own: &mut [u32; 24], head: &[u32; 24]) {
-    let settings = settings_of(case);
-    let insn = insn_of(case);
-    let even = (case[11] % 65536) as u16;
-    let odd = (case[12] % 65536) as u16;
-    let answer = replay_lane(&settings, case[9], &insn, own, head, even, odd);
+fn cell() -> u16 {
+    (number() % 65536) as u16
+}
+
+fn step_and_print(
+    settings: &[u32; 8],
+    insn: &[u32; 6],
+    lane: u32,
+    own: &mut [u32; 24],
+    head: &[u32; 24],
+) {
+    let answer = replay_lane(settings, lane, insn, own, head, cell(), cell());
     print(b"lane ", &[answer], checksum(NOTHING, own));
 }
 
-// Settings, the lane, the lane of row 0, two cells, the instruction, and the image that has the two lanes.
-pub(crate) fn lane_case(case: &[u32; CASE]) {
+// Settings, the instruction, the image, its lane and the one that stands for row 0's, and two cells.
+pub(crate) fn lane_case() {
+    let settings = settings();
+    let insn = insn();
     let mut image = [0u32; IMAGE];
-    make_image(case, 19, &mut image);
-    let mut own = lane_words(&image, case[9]);
-    let head = lane_words(&image, case[10]);
-    step_and_print(case, &mut own, &head);
+    make_image(&mut image);
+    let lane = number();
+    let mut own = lane_words(&image, lane);
+    let head = lane_words(&image, number());
+    step_and_print(&settings, &insn, lane, &mut own, &head);
 }

@@ -3,7 +3,7 @@ use crate::form::of_byte;
 use libc::STDOUT_FILENO;
 ghost use Prim.Native.Nat.{_<_};
 
-// What a checksum begins with.
+// The checksum of nothing.
 pub const NOTHING: u32 = 2166136261;
 
 // A word with room above it.

@@ -1,8 +1,7 @@
 // Images and Dsts by a seed, and lists.
 use crate::at_most;
-use crate::form::CASE;
-use crate::form::place_at;
-use crate::form::word_at;
+use crate::form::number;
+use crate::form::place;
 
 // More words than any image has, more cells than any Dst, and more words than any list.
 pub const IMAGE: usize = 1024;
@@ -52,9 +51,11 @@ fn fill_image(x: &mut u32, image: &mut [u32; IMAGE]) {
     }
 }
 
-// A word at so many places from the first on.
-fn put_words(image: &mut [u32; IMAGE], first: usize, count: usize, word: u32) {
-    let end = at_most(at_most(first, IMAGE) + at_most(count, IMAGE), IMAGE);
+// A change: so many words from a place on become one.
+fn put_change(image: &mut [u32; IMAGE]) {
+    let first = place(IMAGE);
+    let end = at_most(first + place(IMAGE), IMAGE);
+    let word = number();
     let mut at = first;
     while at < end {
         image[at] = word;
@@ -62,18 +63,13 @@ fn put_words(image: &mut [u32; IMAGE], first: usize, count: usize, word: u32) {
     }
 }
 
-// An image at a place of a case: its seed, how many changes, and of each its first place, how many and the word. The generator's state afterwards.
-pub(crate) fn make_image(case: &[u32; CASE], seed: usize, image: &mut [u32; IMAGE]) -> u32 {
-    let from = at_most(seed, CASE);
-    let mut x = word_at(case, from);
+// An image: its seed, how many changes, and these. The generator's state after the seed's words.
+pub(crate) fn make_image(image: &mut [u32; IMAGE]) -> u32 {
+    let mut x = number();
     fill_image(&mut x, image);
-    let mut at = from + 2;
-    let mut left = place_at(case, from + 1, CASE);
+    let mut left = number();
     while left > 0 {
-        let first = place_at(case, at, IMAGE);
-        let count = place_at(case, at + 1, IMAGE);
-        put_words(image, first, count, word_at(case, at + 2));
-        at += 3;
+        put_change(image);
         left -= 1;
     }
     x
@@ -100,21 +96,22 @@ pub(crate) fn make_dst(state: u32, dst: &mut [u16; DST]) {
     }
 }
 
-// Word `i` of a list of which so many words are given, from a place on, and repeat.
-fn repeated(case: &[u32; CASE], from: usize, given: usize, i: usize) -> u32 {
-    if given == 0 {
-        return 0;
-    }
-    word_at(case, at_most(from, CASE) + at_most(i % given, CASE))
-}
-
-// A list at a place of a case: how many words are given, and these, which repeat.
-pub(crate) fn make_list(case: &[u32; CASE], place: usize, list: &mut [u32; LIST]) {
-    let from = at_most(place, CASE);
-    let given = place_at(case, from, LIST);
-    let mut i: usize = 0;
+// The words from `period` on repeat those before it.
+fn repeat(list: &mut [u32; LIST], period: usize) {
+    let mut i = period;
     while i < LIST {
-        list[i] = repeated(case, from + 1, given, i);
+        list[i] = list[i - period];
         i += 1;
     }
+}
+
+// A list: how many words are given, and these, which repeat.
+pub(crate) fn make_list(list: &mut [u32; LIST]) {
+    let given = place(LIST);
+    let mut i: usize = 0;
+    while i < given {
+        list[i] = number();
+        i += 1;
+    }
+    repeat(list, given);
 }

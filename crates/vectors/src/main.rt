@@ -1,9 +1,9 @@
 // Cases on standard input, in the form of tests/CASES.md: each is run by the proved code, and its answer printed as one line. Cases are made
 // by the independent program alone.
 
-// A case's numbers, out of its bytes.
+// Numbers from standard input.
 mod form;
-// Images, Dsts and lists, out of a case's numbers.
+// Images, Dsts and lists.
 mod made;
 // The lines and the checksums in them.
 mod lines;
@@ -16,9 +16,10 @@ mod writing_case;
 // A listing read, and written again.
 mod reading_case;
 
-use form::CASE;
-use form::next_case;
+use form::number;
 use lane_case::lane_case;
+use reading_case::TEXT;
+use reading_case::keep_text;
 use reading_case::reading_case;
 use run_case::run_case;
 use writing_case::writing_case;
@@ -27,30 +28,33 @@ ghost use Prim.Native.Nat.{_≤_};
 // How much of a room is lent: never more than it has.
 fn at_most(length: usize, most: usize) -> usize
     ensures { λ r. ⌜ r ≤ most ⌝ }
+    ensures { λ r. ⌜ r ≤ length ⌝ }
 {
     if length < most { length } else { most }
 }
 
-// A case of any kind; a text is kept for the readings after it.
-fn one_case(case: &[u32; CASE], kept: &mut [u32; CASE]) {
-    match case[0] {
-        0 => *kept = *case,
-        1 => run_case(case),
-        2 => lane_case(case),
-        3 => writing_case(case),
-        _ => reading_case(case, kept),
+// A case of any kind; the length of the text that is kept for the readings after it.
+fn one_case(kind: u32, kept: &mut [u8; TEXT], length: usize) -> usize {
+    match kind {
+        1 => run_case(),
+        2 => lane_case(),
+        3 => writing_case(),
+        4 => return keep_text(kept),
+        _ => reading_case(kept, length),
     }
+    length
 }
 
 fn main() {
-    let mut case = [0u32; CASE];
-    let mut kept = [0u32; CASE];
+    let mut kept = [0u8; TEXT];
+    let mut length: usize = 0;
     let mut left: u32 = 4294967295;
     while left > 0 {
-        if !next_case(&mut case) {
+        let kind = number();
+        if kind == 0 {
             return;
         }
-        one_case(&case, &mut kept);
+        length = one_case(kind, &mut kept, length);
         left -= 1;
     }
 }

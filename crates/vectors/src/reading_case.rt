@@ -1,8 +1,7 @@
 // Reading cases: a text, out of one that is kept, read as a listing; what was read is written again.
 use crate::at_most;
-use crate::form::CASE;
-use crate::form::place_at;
-use crate::form::word_at;
+use crate::form::number;
+use crate::form::place;
 use crate::lines::NOTHING;
 use crate::lines::checksum;
 use crate::lines::print;
@@ -14,76 +13,76 @@ ghost use Prim.Native.Nat.{_≤_};
 // More bytes than any text has.
 pub const TEXT: usize = 65700;
 
-fn set_byte(text: &mut [u8; TEXT], at: usize, byte: u32) {
-    if at < TEXT {
-        text[at] = (byte % 256) as u8;
+// So many bytes from standard input, put into a text.
+fn add_bytes(text: &mut [u8; TEXT], from: usize, count: usize) {
+    let from = at_most(from, TEXT);
+    let end = from + at_most(count, TEXT - from);
+    let mut at = from;
+    while at < end {
+        text[at] = (number() % 256) as u8;
+        at += 1;
     }
 }
 
-// So many bytes, from a place on, put into a text; the place after them.
-fn copy(bytes: &[u32; CASE], from: usize, count: usize, text: &mut [u8; TEXT], to: usize) -> usize {
-    let from = at_most(from, CASE);
-    let count = at_most(count, CASE);
+// So many bytes of the kept text, from a place on, put into a text; the place after them.
+fn copy(kept: &[u8; TEXT], from: usize, count: usize, text: &mut [u8; TEXT], to: usize) -> usize
+    ensures { λ r. ⌜ r ≤ 65700 ⌝ }
+{
+    let from = at_most(from, TEXT);
     let to = at_most(to, TEXT);
+    let count = at_most(at_most(count, TEXT - from), TEXT - to);
     let mut i: usize = 0;
     while i < count {
-        set_byte(text, to + i, word_at(bytes, from + i));
+        text[to + i] = kept[from + i];
         i += 1;
     }
     to + count
 }
 
-// The same so many times over.
-fn copy_times(
-    times: u32,
-    bytes: &[u32; CASE],
-    from: usize,
-    count: usize,
-    text: &mut [u8; TEXT],
-    to: usize,
-) -> usize {
-    let mut at = to;
-    let mut left = times;
-    while left > 0 {
-        at = copy(bytes, from, count, text, at);
-        left -= 1;
+// The bytes from a place on, up to another, repeat those before it.
+fn repeat(text: &mut [u8; TEXT], from: usize, period: usize, end: usize) {
+    let end = at_most(end, TEXT);
+    let period = at_most(period, from);
+    let mut at = from;
+    while at < end {
+        text[at] = text[at - period];
+        at += 1;
     }
-    at
 }
 
-// A piece of a text, at a place of the case: how many bytes of the kept text are copied, where the next copy begins, how many bytes come anew, how many
-// times over, and these. The place after it in the text.
-fn put_piece(
-    case: &[u32; CASE],
-    piece: usize,
-    kept: &[u32; CASE],
-    from: usize,
-    text: &mut [u8; TEXT],
-    to: usize,
-) -> usize
-    requires { ⌜ piece ≤ 4096 ⌝ }
+// A piece that comes anew: how many bytes in all, how many are given, and these, which repeat. The place after it.
+fn add_piece(text: &mut [u8; TEXT], to: usize) -> usize
+    requires { ⌜ to ≤ 65700 ⌝ }
+    ensures { λ r. ⌜ r ≤ 65700 ⌝ }
 {
-    let middle = copy(kept, from, place_at(case, piece, CASE), text, to);
-    let count = place_at(case, piece + 2, CASE);
-    let times = word_at(case, piece + 3);
-    copy_times(times, case, piece + 4, count, text, middle)
+    let all = place(TEXT);
+    let given = place(TEXT);
+    let end = at_most(to + all, TEXT);
+    add_bytes(text, to, given);
+    repeat(text, to + given, given, end);
+    end
 }
 
-// The text of a case: how many pieces, and these; then the rest of the kept text. Its length.
-fn make_text(case: &[u32; CASE], kept: &[u32; CASE], text: &mut [u8; TEXT]) -> usize {
-    let mut from: usize = 2;
+// A text: how many pieces, and of each how many bytes of the kept text are copied, where the next copy begins, and what comes anew; then the rest of
+// the kept text. Its length.
+fn make_text(kept: &[u8; TEXT], length: usize, text: &mut [u8; TEXT]) -> usize {
+    let mut from: usize = 0;
     let mut to: usize = 0;
-    let mut at: usize = 3;
-    let mut left = case[2];
+    let mut left = number();
     while left > 0 {
-        let piece = at_most(at, CASE);
-        to = put_piece(case, piece, kept, from, text, to);
-        from = place_at(case, piece + 1, CASE);
-        at = piece + 4 + place_at(case, piece + 2, CASE);
+        to = copy(kept, from, place(TEXT), text, to);
+        from = place(TEXT);
+        to = add_piece(text, to);
         left -= 1;
     }
-    let end = place_at(kept, 1, CASE);
-    copy(kept, from, end - at_most(from, end), text, to)
+    copy(kept, from, length - at_most(from, length), text, to)
+}
+
+// The text that is kept: its length, and its bytes.
+pub(crate) fn keep_text(kept: &mut [u8; TEXT]) -> usize {
+    let length = place(TEXT);
+    add_bytes(kept, 0, length);
+    length
 }
 
 // The settings that were read, and the outcome.
@@ -121,10 +120,10 @@ fn read_and_write(text: &[u8; TEXT], bytes: usize, list: &mut [u32; LIST], words
     }
 }
 
-// The room's length in words, and the text.
-pub(crate) fn reading_case(case: &[u32; CASE], kept: &[u32; CASE]) {
+// The text, and the room's length in words.
+pub(crate) fn reading_case(kept: &[u8; TEXT], length: usize) {
     let mut text = [0u8; TEXT];
     let mut list = [2779096485u32; LIST];
-    let bytes = make_text(case, kept, &mut text);
-    read_and_write(&text, bytes, &mut list, place_at(case, 1, LIST));
+    let bytes = make_text(kept, length, &mut text);
+    read_and_write(&text, bytes, &mut list, place(LIST));
 }

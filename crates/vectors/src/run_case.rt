@@ -1,7 +1,6 @@
 // Run cases: a list over an image and a Dst.
-use crate::form::CASE;
-use crate::form::place_at;
-use crate::form::settings_of;
+use crate::form::place;
+use crate::form::settings;
 use crate::lines::NOTHING;
 use crate::lines::checksum;
 use crate::lines::print;
@@ -19,31 +18,31 @@ fn run_and_print(settings: &[u32; 8], image: &mut [u32], dst: &[u16], list: &[u3
     print(b"run ", &outcome, checksum(NOTHING, image));
 }
 
-// The run over as much of each array as the case says: words 9 to 11 are the lengths.
-fn run_lent(case: &[u32; CASE], image: &mut [u32], dst: &[u16], list: &[u32]) {
-    let settings = settings_of(case);
-    let image_length = place_at(case, 9, image.len());
-    let dst_length = place_at(case, 10, dst.len());
-    let list_length = place_at(case, 11, list.len());
+// The run over as much of each array as the case says.
+fn run_lent(settings: &[u32; 8], image: &mut [u32], dst: &[u16], list: &[u32]) {
+    let image_length = place(image.len());
+    let dst_length = place(dst.len());
+    let list_length = place(list.len());
     run_and_print(
-        &settings,
+        settings,
         &mut image[..image_length],
         &dst[..dst_length],
         &list[..list_length],
     );
 }
 
-fn run_made(case: &[u32; CASE], image: &mut [u32; IMAGE], dst: &[u16; DST], list: &[u32; LIST]) {
-    run_lent(case, image, dst, list);
+fn run_made(settings: &[u32; 8], image: &mut [u32; IMAGE], dst: &[u16; DST], list: &[u32; LIST]) {
+    run_lent(settings, image, dst, list);
 }
 
-// Settings, three lengths, the list, and the image.
-pub(crate) fn run_case(case: &[u32; CASE]) {
+// Settings, the list, the image, and the three lengths.
+pub(crate) fn run_case() {
+    let settings = settings();
     let mut list = [0u32; LIST];
     let mut image = [0u32; IMAGE];
     let mut dst = [0u16; DST];
-    make_list(case, 12, &mut list);
-    let x = make_image(case, 13 + place_at(case, 12, LIST), &mut image);
+    make_list(&mut list);
+    let x = make_image(&mut image);
     make_dst(x, &mut dst);
-    run_made(case, &mut image, &dst, &list);
+    run_made(&settings, &mut image, &dst, &list);
 }

@@ -1,8 +1,7 @@
 // Writing cases: a list written as a listing.
 use crate::at_most;
-use crate::form::CASE;
-use crate::form::place_at;
-use crate::form::settings_of;
+use crate::form::place;
+use crate::form::settings;
 use crate::lines::byte_checksum;
 use crate::lines::print;
 use crate::made::LIST;
@@ -29,12 +28,12 @@ pub(crate) fn write_into(settings: &[u32; 8], list: &[u32; LIST], words: usize, 
     write_lent(settings, list, words, &mut room, bytes);
 }
 
-// Settings, the list's length, the room's, and the list.
-pub(crate) fn writing_case(case: &[u32; CASE]) {
+// Settings, the list, its length, and the room's.
+pub(crate) fn writing_case() {
+    let settings = settings();
     let mut list = [0u32; LIST];
-    make_list(case, 11, &mut list);
-    let settings = settings_of(case);
-    let words = place_at(case, 9, LIST);
-    let bytes = place_at(case, 10, TEXT);
+    make_list(&mut list);
+    let words = place(LIST);
+    let bytes = place(TEXT);
     write_into(&settings, &list, words, bytes);
 }

@@ -1,19 +1,18 @@
-use Prim.Native.Nat.{_*_}
 use borrow.Author.Needs.{needs}
 use Rattle.vectors.proofs.main.Statement.{statement}
 use Rattle.vectors.proofs.main.Tie as tie
 
 abbrev Inv-loop : tie.InvT-loop
-Inv-loop case₀ kept₀ left₀ case kept left = Unit {0}
+Inv-loop kept₀ n₀ left₀ kept n left = Unit {0}
 
 abbrev μ-loop : tie.MeasureT-loop
-μ-loop case₀ kept₀ left₀ case kept left = left
+μ-loop kept₀ n₀ left₀ kept n left = left
 
 loop-holds : tie.Need-loop-holds Inv-loop μ-loop
 loop-holds c = search needs
 
-next-case-requires : tie.Need-next-case-requires Inv-loop μ-loop
-next-case-requires c κs = search needs
+number-requires : tie.Need-number-requires Inv-loop μ-loop
+number-requires c κs = search needs
 
 returns : tie.Need-returns Inv-loop μ-loop
 returns c = search needs
@@ -40,7 +39,7 @@ main-spec =
     Inv-loop
     μ-loop
     loop-holds
-    next-case-requires
+    number-requires
     returns
     one-case-requires
     sub-left

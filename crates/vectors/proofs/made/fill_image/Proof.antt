@@ -1,4 +1,4 @@
-use Prim.Native.Nat.{_≤_, _-_, _*_}
+use Prim.Native.Nat.{_≤_, _-_}
 use borrow.Author.Needs.{needs}
 use Rattle.vectors.proofs.made.fill_image.Statement.{statement}
 use Rattle.vectors.proofs.made.fill_image.Tie as tie

@@ -1,55 +1,27 @@
-use Prim.Native.Nat.{_≤_, _+_, _*_}
 use borrow.Author.Needs.{needs}
 use Rattle.vectors.proofs.made.make_image.Statement.{statement}
 use Rattle.vectors.proofs.made.make_image.Tie as tie
 
 abbrev Inv-loop : tie.InvT-loop
-Inv-loop case seed image₀ from x at₀ left₀ image at left = at + 3 * left ≤ 16386
+Inv-loop image₀ x left₀ image left = Unit {0}
 
 abbrev μ-loop : tie.MeasureT-loop
-μ-loop case seed image₀ from x at₀ left₀ image at left = left
+μ-loop image₀ x left₀ image left = left
 
-at-most-requires : tie.Need-at-most-requires Inv-loop μ-loop
-at-most-requires c κs = search needs
-
-word-at-requires : tie.Need-word-at-requires Inv-loop μ-loop
-word-at-requires c κs = search needs
+number-requires : tie.Need-number-requires Inv-loop μ-loop
+number-requires c κs = search needs
 
 fill-image-requires : tie.Need-fill-image-requires Inv-loop μ-loop
 fill-image-requires c κs = search needs
 
-add-at : tie.Need-add-at Inv-loop μ-loop
-add-at c = search needs
-
-add-place-at : tie.Need-add-place-at Inv-loop μ-loop
-add-place-at c = search needs
-
-place-at-requires : tie.Need-place-at-requires Inv-loop μ-loop
-place-at-requires c κs = search needs
+number-requires-2 : tie.Need-number-requires-2 Inv-loop μ-loop
+number-requires-2 c κs = search needs
 
 loop-holds : tie.Need-loop-holds Inv-loop μ-loop
 loop-holds c = search needs
 
-place-at-requires-2 : tie.Need-place-at-requires-2 Inv-loop μ-loop
-place-at-requires-2 c κs = search needs
-
-add-place-at-2 : tie.Need-add-place-at-2 Inv-loop μ-loop
-add-place-at-2 c = search needs
-
-place-at-requires-3 : tie.Need-place-at-requires-3 Inv-loop μ-loop
-place-at-requires-3 c κs = search needs
-
-add-word-at : tie.Need-add-word-at Inv-loop μ-loop
-add-word-at c = search needs
-
-word-at-requires-2 : tie.Need-word-at-requires-2 Inv-loop μ-loop
-word-at-requires-2 c κs = search needs
-
-put-words-requires : tie.Need-put-words-requires Inv-loop μ-loop
-put-words-requires c κs = search needs
-
-add-at-2 : tie.Need-add-at-2 Inv-loop μ-loop
-add-at-2 c = search needs
+put-change-requires : tie.Need-put-change-requires Inv-loop μ-loop
+put-change-requires c κs = search needs
 
 sub-left : tie.Need-sub-left Inv-loop μ-loop
 sub-left c = search needs
@@ -69,20 +41,11 @@ make-image-spec =
     (tie.spec
     Inv-loop
     μ-loop
-    at-most-requires
-    word-at-requires
+    number-requires
     fill-image-requires
-    add-at
-    add-place-at
-    place-at-requires
+    number-requires-2
     loop-holds
-    place-at-requires-2
-    add-place-at-2
-    place-at-requires-3
-    add-word-at
-    word-at-requires-2
-    put-words-requires
-    add-at-2
+    put-change-requires
     sub-left
     loop-less
     loop-again

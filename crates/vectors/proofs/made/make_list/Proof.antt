@@ -1,28 +1,22 @@
-use Prim.Native.Nat.{_≤_, _-_, _*_}
+use Prim.Native.Nat.{_≤_, _-_}
 use borrow.Author.Needs.{needs}
 use Rattle.vectors.proofs.made.make_list.Statement.{statement}
 use Rattle.vectors.proofs.made.make_list.Tie as tie
 
 abbrev Inv-loop : tie.InvT-loop
-Inv-loop case place list₀ from given i₀ list i = i ≤ 6160
+Inv-loop list₀ given i₀ list i = given ≤ 6160
 
 abbrev μ-loop : tie.MeasureT-loop
-μ-loop case place list₀ from given i₀ list i = 6160 - i
+μ-loop list₀ given i₀ list i = given - i
 
-at-most-requires : tie.Need-at-most-requires Inv-loop μ-loop
-at-most-requires c κs = search needs
-
-place-at-requires : tie.Need-place-at-requires Inv-loop μ-loop
-place-at-requires c κs = search needs
+place-requires : tie.Need-place-requires Inv-loop μ-loop
+place-requires c κs = search needs
 
 loop-holds : tie.Need-loop-holds Inv-loop μ-loop
 loop-holds c = search needs
 
-add-repeated : tie.Need-add-repeated Inv-loop μ-loop
-add-repeated c = search needs
-
-repeated-requires : tie.Need-repeated-requires Inv-loop μ-loop
-repeated-requires c κs = search needs
+number-requires : tie.Need-number-requires Inv-loop μ-loop
+number-requires c κs = search needs
 
 mul-list : tie.Need-mul-list Inv-loop μ-loop
 mul-list c = search needs
@@ -39,6 +33,9 @@ loop-less c = search needs
 loop-again : tie.Need-loop-again Inv-loop μ-loop
 loop-again c = search needs
 
+repeat-requires : tie.Need-repeat-requires Inv-loop μ-loop
+repeat-requires c κs = search needs
+
 returns : tie.Need-returns Inv-loop μ-loop
 returns c = search needs
 
@@ -48,14 +45,13 @@ make-list-spec =
     (tie.spec
     Inv-loop
     μ-loop
-    at-most-requires
-    place-at-requires
+    place-requires
     loop-holds
-    add-repeated
-    repeated-requires
+    number-requires
     mul-list
     element-write-list
     add-i
     loop-less
     loop-again
+    repeat-requires
     returns)

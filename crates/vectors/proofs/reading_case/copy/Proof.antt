@@ -1,13 +1,13 @@
-use Prim.Native.Nat.{_≤_, _-_, _+_, _*_}
+use Prim.Native.Nat.{_≤_, _-_, _+_}
 use borrow.Author.Needs.{needs}
 use Rattle.vectors.proofs.reading_case.copy.Statement.{statement}
 use Rattle.vectors.proofs.reading_case.copy.Tie as tie
 
 abbrev Inv-loop : tie.InvT-loop
-Inv-loop bytes from count text₀ to from' count' to' i₀ text i = (i ≤ count') × ((from' ≤ 4096) × ((to' ≤ 65700) × (count' ≤ 4096)))
+Inv-loop kept from count text₀ to from' to' count' i₀ text i = (i ≤ count') × ((from' + count' ≤ 65700) × (to' + count' ≤ 65700))
 
 abbrev μ-loop : tie.MeasureT-loop
-μ-loop bytes from count text₀ to from' count' to' i₀ text i = count' - i
+μ-loop kept from count text₀ to from' to' count' i₀ text i = count' - i
 
 at-most-requires : tie.Need-at-most-requires Inv-loop μ-loop
 at-most-requires c κs = search needs
@@ -15,23 +15,32 @@ at-most-requires c κs = search needs
 at-most-requires-2 : tie.Need-at-most-requires-2 Inv-loop μ-loop
 at-most-requires-2 c κs = search needs
 
+sub-at-most : tie.Need-sub-at-most Inv-loop μ-loop
+sub-at-most c = search needs
+
 at-most-requires-3 : tie.Need-at-most-requires-3 Inv-loop μ-loop
 at-most-requires-3 c κs = search needs
+
+sub-at-most-2 : tie.Need-sub-at-most-2 Inv-loop μ-loop
+sub-at-most-2 c = search needs
+
+at-most-requires-4 : tie.Need-at-most-requires-4 Inv-loop μ-loop
+at-most-requires-4 c κs = search needs
 
 loop-holds : tie.Need-loop-holds Inv-loop μ-loop
 loop-holds c = search needs
 
-add-set-byte : tie.Need-add-set-byte Inv-loop μ-loop
-add-set-byte c = search needs
+add-text : tie.Need-add-text Inv-loop μ-loop
+add-text c = search needs
 
-add-word-at : tie.Need-add-word-at Inv-loop μ-loop
-add-word-at c = search needs
+element-copy-out-text : tie.Need-element-copy-out-text Inv-loop μ-loop
+element-copy-out-text c = search needs
 
-word-at-requires : tie.Need-word-at-requires Inv-loop μ-loop
-word-at-requires c κs = search needs
+add-text-2 : tie.Need-add-text-2 Inv-loop μ-loop
+add-text-2 c = search needs
 
-set-byte-requires : tie.Need-set-byte-requires Inv-loop μ-loop
-set-byte-requires c κs = search needs
+element-write-text : tie.Need-element-write-text Inv-loop μ-loop
+element-write-text c = search needs
 
 add-i : tie.Need-add-i Inv-loop μ-loop
 add-i c = search needs
@@ -56,12 +65,15 @@ copy-spec =
     μ-loop
     at-most-requires
     at-most-requires-2
+    sub-at-most
     at-most-requires-3
+    sub-at-most-2
+    at-most-requires-4
     loop-holds
-    add-set-byte
-    add-word-at
-    word-at-requires
-    set-byte-requires
+    add-text
+    element-copy-out-text
+    add-text-2
+    element-write-text
     add-i
     loop-less
     loop-again

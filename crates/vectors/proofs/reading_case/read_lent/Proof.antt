@@ -13,13 +13,13 @@ at-most-requires-2 : tie.Need-at-most-requires-2
 at-most-requires-2 c κs = search needs
 
 slice-aggregate-read-and-print : tie.Need-slice-aggregate-read-and-print
-slice-aggregate-read-and-print c = sym (length-take-le _ _ (c .before .before .at-most .ensures))
+slice-aggregate-read-and-print c = sym (length-take-le _ _ (c .before .before .at-most .ensures .0))
 
 slice-relend-prefix-read-and-print : tie.Need-slice-relend-prefix-read-and-print
 slice-relend-prefix-read-and-print c = search needs
 
 slice-aggregate-read-and-print-2 : tie.Need-slice-aggregate-read-and-print-2
-slice-aggregate-read-and-print-2 c = sym (length-take-le _ _ (c .before .before .at-most2 .ensures))
+slice-aggregate-read-and-print-2 c = sym (length-take-le _ _ (c .before .before .at-most2 .ensures .0))
 
 read-and-print-requires : tie.Need-read-and-print-requires
 read-and-print-requires c κs = search needs

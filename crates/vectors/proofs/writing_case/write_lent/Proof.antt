@@ -13,13 +13,13 @@ at-most-requires-2 : tie.Need-at-most-requires-2
 at-most-requires-2 c κs = search needs
 
 slice-aggregate-write-and-print : tie.Need-slice-aggregate-write-and-print
-slice-aggregate-write-and-print c = sym (length-take-le _ _ (c .before .before .at-most .ensures))
+slice-aggregate-write-and-print c = sym (length-take-le _ _ (c .before .before .at-most .ensures .0))
 
 slice-relend-prefix-write-and-print : tie.Need-slice-relend-prefix-write-and-print
 slice-relend-prefix-write-and-print c = search needs
 
 slice-aggregate-write-and-print-2 : tie.Need-slice-aggregate-write-and-print-2
-slice-aggregate-write-and-print-2 c = sym (length-take-le _ _ (c .before .before .at-most2 .ensures))
+slice-aggregate-write-and-print-2 c = sym (length-take-le _ _ (c .before .before .at-most2 .ensures .0))
 
 write-and-print-requires : tie.Need-write-and-print-requires
 write-and-print-requires c κs = search needs
