@@ -40,9 +40,9 @@ static uint32_t must_match(const struct run_case *c)
         if (run_case(&programs[i], c, image, outcome) == answer && memcmp(image, right, sizeof image) == 0 &&
             memcmp(outcome, expected, sizeof outcome) == 0)
             continue;
-        fprintf(stderr, "bench: %s differs from the independent program (answers %u and %u) on %zu words, the first op %u with mod %u;%s\n",
+        fprintf(stderr, "bench: %s differs from the independent program (answers %u and %u) on %zu words, the first op %u with mod %u\n",
                 programs[i].name, (unsigned)outcome[O_ANSWER], (unsigned)answer, c->list_len, (unsigned)c->list[F_OP],
-                (unsigned)c->list[F_MOD], c->damage);
+                (unsigned)c->list[F_MOD]);
         exit(1);
     }
     return answer;
@@ -50,13 +50,14 @@ static uint32_t must_match(const struct run_case *c)
 
 static void compare_random(unsigned count)
 {
-    static struct run_case c;
-    unsigned refused = 0;
-    for (uint32_t k = 0; k < count; k++) {
-        ind_make_run(20261115, k, &c);
-        refused += must_match(&c) != 0;
-    }
-    printf("%u random runs, %u of them refused: all agree.\n", count, refused);
+    static struct any_case c;
+    unsigned runs = 0, refused = 0;
+    FILE *cases = tmpfile();
+    if (cases == NULL) exit(1);
+    ind_cases(20261115, count, 0, 0, cases);
+    for (rewind(cases); ind_next(cases, &c); runs++) refused += must_match(&c.run) != 0;
+    fclose(cases);
+    printf("%u random runs, %u of them refused: all agree.\n", runs, refused);
 }
 
 /* Each op with each mod, and one other field at a limit. */

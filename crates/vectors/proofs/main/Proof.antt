@@ -1,3 +1,4 @@
+-- `main` ends: the cases left fall.
 use borrow.Author.Needs.{needs}
 use Rattle.vectors.proofs.main.Statement.{statement}
 use Rattle.vectors.proofs.main.Tie as tie

@@ -1,3 +1,4 @@
+-- `number` ends: the bytes left fall.
 use borrow.Author.Needs.{needs}
 use Rattle.vectors.proofs.form.number.Statement.{statement}
 use Rattle.vectors.proofs.form.number.Tie as tie

@@ -1,3 +1,4 @@
+-- `lane_words`: within the 24 words, and within the image.
 use Prim.Native.Nat.{_≤_, _-_, _+_, _*_}
 use borrow.Author.Needs.{needs}
 use lib.ListN.{length}

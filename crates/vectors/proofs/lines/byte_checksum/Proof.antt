@@ -1,3 +1,4 @@
+-- `byte_checksum`: within the bytes.
 use Prim.Native.Nat.{_≤_, _-_, _*_}
 use borrow.Author.Needs.{needs}
 use lib.ListN.{length}

@@ -1,3 +1,4 @@
+-- `checksum`: within the words.
 use Prim.Native.Nat.{_≤_, _-_, _*_}
 use borrow.Author.Needs.{needs}
 use lib.ListN.{length}

@@ -1,3 +1,4 @@
+-- `print`: within the numbers.
 use Prim.Native.Nat.{_≤_, _-_, _*_}
 use borrow.Author.Needs.{needs}
 use lib.ListN.{length}

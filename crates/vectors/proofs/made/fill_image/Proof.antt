@@ -1,3 +1,4 @@
+-- `fill_image`: within the image.
 use Prim.Native.Nat.{_≤_, _-_}
 use borrow.Author.Needs.{needs}
 use Rattle.vectors.proofs.made.fill_image.Statement.{statement}

@@ -1,3 +1,4 @@
+-- `make_dst`: within the Dst.
 use Prim.Native.Nat.{_≤_, _-_}
 use borrow.Author.Needs.{needs}
 use Rattle.vectors.proofs.made.make_dst.Statement.{statement}

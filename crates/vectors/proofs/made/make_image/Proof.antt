@@ -1,3 +1,4 @@
+-- `make_image` ends: the changes left fall.
 use borrow.Author.Needs.{needs}
 use Rattle.vectors.proofs.made.make_image.Statement.{statement}
 use Rattle.vectors.proofs.made.make_image.Tie as tie

@@ -1,3 +1,4 @@
+-- `make_list`: within the list.
 use Prim.Native.Nat.{_≤_, _-_}
 use borrow.Author.Needs.{needs}
 use Rattle.vectors.proofs.made.make_list.Statement.{statement}

@@ -1,3 +1,4 @@
+-- `put_change`: within the image.
 use Prim.Native.Nat.{_≤_, _-_}
 use borrow.Author.Needs.{needs}
 use Rattle.vectors.proofs.made.put_change.Statement.{statement}

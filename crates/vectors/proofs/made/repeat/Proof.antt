@@ -1,3 +1,4 @@
+-- `repeat`: within the list, and not before its beginning.
 use Prim.Native.Nat.{_≤_, _-_}
 use borrow.Author.Needs.{needs}
 use Rattle.vectors.proofs.made.repeat.Statement.{statement}

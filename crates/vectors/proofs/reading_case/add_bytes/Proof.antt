@@ -1,3 +1,4 @@
+-- `add_bytes`: within the text.
 use Prim.Native.Nat.{_≤_, _-_}
 use borrow.Author.Needs.{needs}
 use Rattle.vectors.proofs.reading_case.add_bytes.Statement.{statement}

@@ -1,3 +1,4 @@
+-- `copy`: within both texts.
 use Prim.Native.Nat.{_≤_, _-_, _+_}
 use borrow.Author.Needs.{needs}
 use Rattle.vectors.proofs.reading_case.copy.Statement.{statement}

@@ -1,3 +1,4 @@
+-- `make_text`: the text is never longer than its room, and the pieces left fall.
 use Prim.Native.Nat.{_≤_}
 use borrow.Author.Needs.{needs}
 use lib.ListN.{length}

@@ -1,3 +1,4 @@
+-- `repeat`: within the text, and not before its beginning.
 use Prim.Native.Nat.{_≤_, _-_}
 use borrow.Author.Needs.{needs}
 use Rattle.vectors.proofs.reading_case.repeat.Statement.{statement}

@@ -1,3 +1,4 @@
+-- `run_lent`: each part is as long as it says.
 use lib.ListN.{length}
 use borrow.Author.Needs.{needs}
 use mathlib.Core.Path.{sym}
