@@ -1,5 +1,5 @@
 -- `checksum`: within the words.
-use Prim.Native.Nat.{_≤_, _-_, _*_}
+use Prim.Native.Nat.{_≤_, _-_}
 use borrow.Author.Needs.{needs}
 use lib.ListN.{length}
 use Rattle.vectors.proofs.lines.checksum.Statement.{statement}

@@ -1,5 +1,4 @@
 -- `read_and_print`: the settings are eight words and the outcome five, by what `replay_read` promises.
-use Prim.Native.Nat.{_*_}
 use borrow.Author.Needs.{needs}
 use mathlib.Core.Path.{sym, ap}
 use lib.ListN.{length}

@@ -1,5 +1,4 @@
 -- `read_lent`: each part is as long as it says.
-use Prim.Native.Nat.{_*_}
 use lib.ListN.{length}
 use borrow.Author.Needs.{needs}
 use mathlib.Core.Path.{sym}

@@ -1,5 +1,4 @@
 -- `run_and_print`: the outcome is four words, by what `replay_run` promises.
-use Prim.Native.Nat.{_*_}
 use borrow.Author.Needs.{needs}
 use mathlib.Core.Path.{sym, ap}
 use lib.ListN.{length}

@@ -1,5 +1,4 @@
 -- `write_and_print`: the outcome is five words, by what `replay_write` promises.
-use Prim.Native.Nat.{_*_}
 use borrow.Author.Needs.{needs}
 use mathlib.Core.Path.{sym, ap}
 use lib.ListN.{length}
