@@ -21,55 +21,42 @@ static uint32_t byte_checksum(const uint8_t *bytes, size_t len)
     return h;
 }
 
-static void print(FILE *out, const char *name, const uint32_t *numbers, int count, uint32_t sum)
+static void print(FILE *out, uint32_t kind, const uint32_t *numbers, int count, uint32_t sum)
 {
-    fprintf(out, "%s", name);
+    fprintf(out, "%" PRIu32, kind);
     for (int i = 0; i < count; i++) fprintf(out, " %" PRIu32, numbers[i]);
     fprintf(out, " %08" PRIx32 "\n", sum);
 }
 
-static void write_into(const uint32_t settings[8], const uint32_t *list, size_t list_len, size_t room, FILE *out)
+static void answer_run(struct run_case *r, FILE *out)
 {
-    static uint8_t text[ROOM_TEXT];
-    uint32_t o[5];
-    memset(text, 165, sizeof text);
-    ind_write(settings, list, list_len, text, room, o);
-    print(out, "write", o, 5, byte_checksum(text, room));
+    uint32_t o[4];
+    ind_run(r->settings, r->image, r->image_len, r->dst, r->dst_len, r->list, r->list_len, o);
+    print(out, RUN_CASE, o, 4, checksum(NOTHING, r->image, r->image_len));
 }
 
-static int answer_reading(const struct reading_case *r, FILE *out)
+static void answer_lane(struct lane_case *l, FILE *out)
+{
+    uint32_t answer = ind_lane(l->settings, l->lane, l->insn, l->own, l->head, l->even, l->odd);
+    print(out, LANE_CASE, &answer, 1, checksum(NOTHING, l->own, SLOTS));
+}
+
+static void answer_reading(const struct reading_case *r, FILE *out)
 {
     static uint32_t list[ROOM_LIST];
     uint32_t settings[8], o[5];
     for (size_t i = 0; i < ROOM_LIST; i++) list[i] = 2779096485u;
     ind_read(r->text, r->text_len, list, r->room, settings, o);
-    print(out, "read", o, 5, checksum(checksum(NOTHING, settings, 8), list, r->room));
-    if (o[O_ANSWER] != 0) return 1;
-    write_into(settings, list, o[O_LENGTH], r->text_len, out);
-    return 2;
+    print(out, READING_CASE, o, 5, checksum(checksum(NOTHING, settings, 8), list, r->room));
 }
 
-/* How many lines the case has. */
-static int answer(struct any_case *c, FILE *out)
+static void answer(struct any_case *c, FILE *out)
 {
-    struct run_case *run = &c->run;
-    struct lane_case *lane = &c->lane;
-    uint32_t o[4];
-
     switch (c->kind) {
-    case RUN_CASE:
-        ind_run(run->settings, run->image, run->image_len, run->dst, run->dst_len, run->list, run->list_len, o);
-        print(out, "run", o, 4, checksum(NOTHING, run->image, run->image_len));
-        return 1;
-    case LANE_CASE:
-        o[0] = ind_lane(lane->settings, lane->lane, lane->insn, lane->own, lane->head, lane->even, lane->odd);
-        print(out, "lane", o, 1, checksum(NOTHING, lane->own, SLOTS));
-        return 1;
-    case WRITING_CASE:
-        write_into(c->writing.settings, c->writing.list, c->writing.list_len, c->writing.room, out);
-        return 1;
-    default:
-        return answer_reading(&c->reading, out);
+    case RUN_CASE:     answer_run(&c->run, out); break;
+    case LANE_CASE:    answer_lane(&c->lane, out); break;
+    case WRITING_CASE: print(out, WRITING_CASE, c->writing.outcome, 5, byte_checksum(c->writing.text, c->writing.room)); break;
+    default:           answer_reading(&c->reading, out);
     }
 }
 
@@ -133,17 +120,11 @@ static void show(const struct any_case *c, FILE *out)
 
 bool ind_show(FILE *in, uint32_t line, FILE *out)
 {
-    static struct any_case c, before;
-    FILE *nowhere = tmpfile();
-    bool found = false;
-    for (uint32_t lines = 0; nowhere != NULL && !found && ind_next(in, &c); rewind(nowhere)) {
-        before = c;
-        lines += (uint32_t)answer(&c, nowhere);
-        found = line > 0 && line <= lines;
-    }
-    if (nowhere != NULL) fclose(nowhere);
-    if (!found) return false;
-    show(&before, out);
-    answer(&before, out);
+    static struct any_case c;
+    do {
+        if (!ind_next(in, &c)) return false;
+    } while (--line > 0);
+    show(&c, out);
+    answer(&c, out);
     return true;
 }

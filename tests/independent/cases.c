@@ -349,6 +349,15 @@ static size_t bytes_needed(const struct list *l)
     return needed;
 }
 
+static void put_writing(const uint32_t settings[8], const struct list *l, size_t room)
+{
+    put(WRITING_CASE);
+    put_all(settings, 8);
+    put_list(l);
+    put((uint32_t)l->len);
+    put((uint32_t)room);
+}
+
 static void make_writing(void)
 {
     uint32_t settings[8], t = below(32), r, v;
@@ -364,14 +373,10 @@ static void make_writing(void)
     }
     r = below(16), v = below(64);
     size_t needed = bytes_needed(&list);
-    put(WRITING_CASE);
-    put_all(settings, 8);
-    put_list(&list);
-    put((uint32_t)list.len);
-    put((uint32_t)(r < 2 ? needed - 1 : r < 4 ? needed : r == 4 ? v : needed + v));
+    put_writing(settings, &list, r < 2 ? needed - 1 : r < 4 ? needed : r == 4 ? v : needed + v);
 }
 
-/* Readings: a text is kept, and each reading is of that text with damage. */
+/* Readings: a text is written and so kept, and each reading is of that text with damage. */
 
 struct text {
     uint8_t byte[ROOM_TEXT];
@@ -382,16 +387,15 @@ static struct text base;
 
 static void make_base(void)
 {
-    uint32_t settings[8], outcome[5];
+    uint32_t settings[8], outcome[5], t = below(24);
     static struct list list;
-    base.count = below(8) == 0 ? 0 : 1 + below(6);
+    base.count = t == 0 ? 1024 : t < 4 ? 0 : 1 + below(6);
     make_settings(settings);
-    make_list(&list, (uint32_t)base.count, 6);
+    make_list(&list, (uint32_t)base.count, base.count > 6 ? 1 : 6);
+    for (size_t i = 6 * list.given; i < list.len; i++) list.word[i] = list.word[i - 6 * list.given];
     ind_write(settings, list.word, list.len, base.byte, ROOM_TEXT, outcome);
     base.len = outcome[O_LENGTH];
-    put(TEXT_CASE);
-    put((uint32_t)base.len);
-    for (size_t i = 0; i < base.len; i++) put(base.byte[i]);
+    put_writing(settings, &list, base.len + below(64));
 }
 
 static size_t find_line(const struct text *t, uint32_t m)
@@ -415,11 +419,12 @@ static void splice(struct text *t, size_t a, size_t b, const void *piece, size_t
     t->len = t->len - (b - a) + len;
 }
 
-static void damage_text(struct text *t)
+/* Whether more damage may follow: what is padded with LFs stays so, since they come by the text's length. */
+static bool damage_text(struct text *t)
 {
     uint32_t kind = below(20), lines = 0, v, w;
     for (size_t i = 0; i < t->len; i++) lines += t->byte[i] == 10;
-    if (lines == 0) return;
+    if (lines == 0) return true;
 
     uint32_t h = below(2), m = h == 0 ? below(lines < 9 ? lines : 9) : below(lines);
     size_t a = find_line(t, m), b = line_end(t, a), p = a + below((uint32_t)(b - a));
@@ -485,36 +490,19 @@ static void damage_text(struct text *t)
         snprintf((char *)copy, sizeof copy, "op=LOAD imm=00000 vb=00 vc=00 vd=00 mod=%02" PRIu32 "\n", v);
         splice(t, a, line_end(t, a), copy, strlen((char *)copy));
     }
+    return kind != 17;
 }
 
-/* The first instruction's line over and over, 1,024 times. */
-static void lengthen(struct text *t)
-{
-    size_t a = find_line(t, 9), b = line_end(t, a), len = b - a;
-    for (int i = 1; i < 1024; i++) memcpy(t->byte + a + (size_t)i * len, t->byte + a, len);
-    t->len = a + 1024 * len;
-    t->count = 1024;
-    memcpy(t->byte + find_line(t, 8) + 6, "1024", 4);
-}
+/* The pieces that make one text of another. */
 
-/* The pieces that make one text of another. A line that comes anew three times or more is said once. */
+enum { MOST_PIECES = 64 };
 
 /* They are held until their number is known. */
 static struct {
-    size_t copied, next, all, given;
+    size_t copied, next, count;
     const uint8_t *bytes;
-} pieces[64];
-static size_t piece_count, base_at;         /* base_at: where in the kept text the next copy begins */
-
-static void piece(size_t copied, size_t passed, const uint8_t *bytes, size_t given, size_t times)
-{
-    base_at += copied + passed;
-    pieces[piece_count].copied = copied;
-    pieces[piece_count].next = base_at;
-    pieces[piece_count].all = given * times;
-    pieces[piece_count].given = given;
-    pieces[piece_count++].bytes = bytes;
-}
+} pieces[MOST_PIECES];
+static size_t piece_count;
 
 static void put_pieces(void)
 {
@@ -522,37 +510,9 @@ static void put_pieces(void)
     for (size_t i = 0; i < piece_count; i++) {
         put((uint32_t)pieces[i].copied);
         put((uint32_t)pieces[i].next);
-        put((uint32_t)pieces[i].all);
-        put((uint32_t)pieces[i].given);
-        for (size_t j = 0; j < pieces[i].given; j++) put(pieces[i].bytes[j]);
+        put((uint32_t)pieces[i].count);
+        for (size_t j = 0; j < pieces[i].count; j++) put(pieces[i].bytes[j]);
     }
-}
-
-static size_t repeats(const uint8_t *bytes, size_t len, size_t period)
-{
-    size_t n = 1;
-    while ((n + 1) * period <= len && memcmp(bytes, bytes + n * period, period) == 0) n++;
-    return n;
-}
-
-static void put_new(size_t copied, size_t passed, const uint8_t *bytes, size_t len)
-{
-    size_t plain = 0;
-    for (size_t at = 0; at < len;) {
-        const uint8_t *lf = memchr(bytes + at, 10, len - at);
-        size_t line = lf == NULL ? len - at : (size_t)(lf - bytes) - at + 1, times = repeats(bytes + at, len - at, line);
-        if (times >= 3) {
-            if (at > plain) {
-                piece(copied, passed, bytes + plain, at - plain, 1);
-                copied = passed = 0;
-            }
-            piece(copied, passed, bytes + at, line, times);
-            copied = passed = 0;
-            plain = at + times * line;
-        }
-        at += times >= 3 ? times * line : line;
-    }
-    if (len > plain || copied + passed > 0) piece(copied, passed, bytes + plain, len - plain, 1);
 }
 
 enum { ALIKE = 12 };
@@ -568,35 +528,65 @@ static bool meet(const uint8_t *a, size_t a_len, const uint8_t *b, size_t b_len,
     return false;
 }
 
+/* Past a text are LFs, so that those at its end come by its length. */
+static size_t without_padding(const struct text *t)
+{
+    size_t len = t->len;
+    while (len > 1 && t->byte[len - 1] == 10 && t->byte[len - 2] == 10) len--;
+    return len;
+}
+
 static void put_text(const struct text *t)
 {
-    size_t from = 0, to = 0, copied = 0, passed, fresh;
-    piece_count = base_at = 0;
-    while (from < base.len || to < t->len) {
-        if (from < base.len && to < t->len && base.byte[from] == t->byte[to]) {
+    size_t from = 0, to = 0, copied = 0, passed, fresh, len = without_padding(t);
+    piece_count = 0;
+    while (from < base.len || to < len) {
+        if (from < base.len && to < len && base.byte[from] == t->byte[to]) {
             from++, to++, copied++;
             continue;
         }
-        if (!meet(base.byte + from, base.len - from, t->byte + to, t->len - to, &passed, &fresh)) passed = base.len - from, fresh = t->len - to;
-        put_new(copied, passed, t->byte + to, fresh);
-        from += passed, to += fresh, copied = 0;
+        if (piece_count == MOST_PIECES - 1 || !meet(base.byte + from, base.len - from, t->byte + to, len - to, &passed, &fresh)) passed = base.len - from, fresh = len - to;
+        from += passed;
+        pieces[piece_count].copied = copied;
+        pieces[piece_count].next = from;
+        pieces[piece_count].count = fresh;
+        pieces[piece_count++].bytes = t->byte + to;
+        to += fresh, copied = 0;
     }
     put_pieces();
+    put((uint32_t)t->len);
+}
+
+/* The last listing of the group that was damaged and is in order all the same: it is written again at the group's end. */
+static uint32_t again_settings[8];
+static struct list again;
+
+static void remember(const struct text *t)
+{
+    static uint32_t list[ROOM_LIST];
+    uint32_t settings[8], outcome[5];
+    if (ind_read(t->byte, t->len, list, ROOM_LIST, settings, outcome) != 0 || outcome[O_LENGTH] > 60) return;
+    memcpy(again_settings, settings, sizeof settings);
+    memcpy(again.word, list, outcome[O_LENGTH] * sizeof *list);
+    again.len = outcome[O_LENGTH];
+    again.given = again.len / 6;
 }
 
 static void make_reading(void)
 {
     static struct text t;
     t = base;
-    if (t.count > 0 && below(48) == 0) lengthen(&t);
     size_t words = 6 * t.count;
     uint32_t n = below(8), r, v;
-    for (n = n < 2 ? 0 : n < 5 ? 1 : 2; n > 0; n--) damage_text(&t);
+    for (n = n < 2 ? 0 : n < 5 ? 1 : 2; n > 0 && damage_text(&t); n--) continue;
+    remember(&t);
     r = below(16), v = below(16);
     put(READING_CASE);
     put_text(&t);
     put((uint32_t)(r == 2 ? v : r == 0 && words > 0 ? words - 1 : r == 1 ? words : words + v));
 }
+
+static void make_again(void) { put_writing(again_settings, &again, bytes_needed(&again)); }
 
 /* All of them. */
 
@@ -613,8 +603,10 @@ void ind_cases(uint32_t seed, uint32_t runs, uint32_t lanes, uint32_t listings, 
     }
     for (uint32_t k = 0; k < listings; k++) {
         start(seed, k, 12);
+        /* of 25 listings one is written, 20 are read as it is or damaged, one of these is written again, and 3 are others */
         if (k % 25 == 0) make_base();
-        if (k % 5 == 4) make_writing();
-        else make_reading();
+        else if (k % 25 < 21) make_reading();
+        else if (k % 25 == 21) make_again();
+        else make_writing();
     }
 }

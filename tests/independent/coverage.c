@@ -139,10 +139,7 @@ static void count_lane(const struct lane_case *l)
 
 static void count_writing(const struct writing_case *w)
 {
-    static uint8_t text[ROOM_TEXT];
-    uint32_t o[5];
-    ind_write(w->settings, w->list, w->list_len, text, w->room, o);
-    count_answer(2, o[O_ANSWER], w->list + 6 * o[O_PLACE]);
+    count_answer(2, w->outcome[O_ANSWER], w->list + 6 * w->outcome[O_PLACE]);
 }
 
 static void count_reading(const struct reading_case *r)

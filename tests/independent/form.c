@@ -11,7 +11,7 @@ void ind_put(FILE *out, uint32_t n)
     fputc((int)(n & 127), out);
 }
 
-/* The case that is being read, and the text that is kept for the readings after it. */
+/* The case that is being read, and the text that was last written, which is kept for the readings after it. */
 
 static FILE *in;
 static uint8_t kept[ROOM_TEXT];
@@ -117,46 +117,36 @@ static void make_lane(struct lane_case *l)
     l->odd = (uint16_t)number();
 }
 
+/* The room is what is kept, so that a writing is done where its case is read. */
 static void make_writing(struct writing_case *w)
 {
     numbers(w->settings, 8);
     make_list(w->list);
     w->list_len = place(ROOM_LIST);
     w->room = place(ROOM_TEXT);
-}
-
-static void keep_text(void)
-{
-    kept_len = place(ROOM_TEXT);
-    for (size_t i = 0; i < kept_len; i++) kept[i] = (uint8_t)number();
-}
-
-static void add(struct reading_case *r, uint8_t byte)
-{
-    if (r->text_len < ROOM_TEXT) r->text[r->text_len++] = byte;
+    ind_write(w->settings, w->list, w->list_len, kept, w->room, w->outcome);
+    kept_len = w->outcome[O_LENGTH];
+    memcpy(w->text, kept, sizeof kept);
 }
 
 static void make_reading(struct reading_case *r)
 {
-    static uint8_t given[ROOM_TEXT];
-    size_t from = 0;
-    r->text_len = 0;
+    size_t from = 0, to = 0;
+    memset(r->text, 10, sizeof r->text);
     for (uint32_t pieces = number(); pieces > 0; pieces--) {
-        for (size_t copied = place(ROOM_TEXT); copied > 0; copied--) add(r, kept[from++]);
+        for (size_t copied = place(ROOM_TEXT); copied > 0 && to < ROOM_TEXT; copied--) r->text[to++] = kept[from++];
         from = place(ROOM_TEXT);
-        size_t all = place(ROOM_TEXT), period = place(ROOM_TEXT);
-        for (size_t i = 0; i < period; i++) given[i] = (uint8_t)number();
-        for (size_t i = 0; i < all; i++) add(r, given[i % period]);
+        for (size_t count = place(ROOM_TEXT); count > 0 && to < ROOM_TEXT; count--) r->text[to++] = (uint8_t)number();
     }
-    while (from < kept_len) add(r, kept[from++]);
+    while (from < kept_len && to < ROOM_TEXT) r->text[to++] = kept[from++];
+    r->text_len = place(ROOM_TEXT);
     r->room = place(ROOM_LIST);
 }
 
 bool ind_next(FILE *from, struct any_case *c)
 {
     in = from;
-    while ((c->kind = number()) == TEXT_CASE) keep_text();
-    switch (c->kind) {
+    switch (c->kind = number()) {
     case 0:            return false;
     case RUN_CASE:     make_run(&c->run); break;
     case LANE_CASE:    make_lane(&c->lane); break;

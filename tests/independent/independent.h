@@ -51,7 +51,7 @@ uint32_t ind_write(const uint32_t settings[8], const uint32_t *list, size_t list
 void ind_replay(FILE *in, FILE *out);
 
 /* form.c: the largest sizes are in tests/CASES.md. */
-enum { RUN_CASE = 1, LANE_CASE, WRITING_CASE, TEXT_CASE, READING_CASE };
+enum { RUN_CASE = 1, LANE_CASE, WRITING_CASE, READING_CASE };
 enum { ROOM_IMAGE = 1024, ROOM_DST = 16400, ROOM_LIST = 6160, ROOM_TEXT = 65700 };
 
 struct run_case {
@@ -66,8 +66,9 @@ struct lane_case {
 };
 
 struct writing_case {
-    uint32_t settings[8], list[ROOM_LIST];
+    uint32_t settings[8], list[ROOM_LIST], outcome[5];
     size_t list_len, room;
+    uint8_t text[ROOM_TEXT];                            /* the room afterwards */
 };
 
 struct reading_case {
@@ -84,7 +85,7 @@ struct any_case {
 };
 
 void ind_put(FILE *out, uint32_t n);
-bool ind_next(FILE *from, struct any_case *c);          /* whether there is one more; a text is kept, and passed over */
+bool ind_next(FILE *from, struct any_case *c);          /* whether there is one more; what is written is kept for the readings after it */
 
 /* cases.c */
 void ind_cases(uint32_t seed, uint32_t runs, uint32_t lanes, uint32_t listings, FILE *out);

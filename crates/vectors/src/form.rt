@@ -1,4 +1,4 @@
-// Numbers from standard input. Past its end they are 0, and no case has that kind.
+// Numbers from standard input. Past its end they are 0, which is no kind of case.
 use crate::at_most;
 use libc::STDIN_FILENO;
 ghost use Prim.Native.Nat.{_<_, _≤_};

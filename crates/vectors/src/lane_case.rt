@@ -10,12 +10,11 @@ use host::replay_lane;
 
 // One lane's words, out of an image.
 fn lane_words(image: &[u32; IMAGE], lane: u32) -> [u32; 24] {
+    let first = (lane % 32) as usize;
     let mut words = [0u32; 24];
-    let mut at = (lane % 32) as usize;
     let mut slot: usize = 0;
     while slot < 24 {
-        words[slot] = image[at];
-        at += 32;
+        words[slot] = image[first + 32 * slot];
         slot += 1;
     }
     words
@@ -37,7 +36,7 @@ fn step_and_print(
     head: &[u32; 24],
 ) {
     let answer = replay_lane(settings, lane, insn, own, head, cell(), cell());
-    print(b"lane ", &[answer], checksum(NOTHING, own));
+    print(2, &[answer], checksum(NOTHING, own));
 }
 
 // Settings, the instruction, the image, its lane and the one that stands for row 0's, and two cells.

@@ -38,13 +38,18 @@ pub(crate) fn byte_checksum(bytes: &[u8]) -> u32 {
     h
 }
 
-// A line on standard output: what was called, the numbers that it answered, and the checksum of what was lent.
-pub(crate) fn print(name: &[u8], numbers: &[u32], sum: u32) {
-    io::write_all(STDOUT_FILENO, name);
+// A number in decimal, and a space.
+fn print_number(n: u32) {
+    io::print_decimal(STDOUT_FILENO, n as u64);
+    io::write_all(STDOUT_FILENO, b" ");
+}
+
+// A line on standard output: the case's kind, the numbers that were answered, and the checksum of what was lent.
+pub(crate) fn print(kind: u32, numbers: &[u32], sum: u32) {
+    print_number(kind);
     let mut i: usize = 0;
     while i < numbers.len() {
-        io::print_decimal(STDOUT_FILENO, wide(numbers[i]));
-        io::write_all(STDOUT_FILENO, b" ");
+        print_number(numbers[i]);
         i += 1;
     }
     io::print_hex(STDOUT_FILENO, sum as u64, 8);

@@ -13,13 +13,12 @@ mod run_case;
 mod lane_case;
 // A list written as a listing.
 mod writing_case;
-// A listing read, and written again.
+// A listing read.
 mod reading_case;
 
 use form::number;
 use lane_case::lane_case;
 use reading_case::TEXT;
-use reading_case::keep_text;
 use reading_case::reading_case;
 use run_case::run_case;
 use writing_case::writing_case;
@@ -33,13 +32,12 @@ fn at_most(length: usize, most: usize) -> usize
     if length < most { length } else { most }
 }
 
-// A case of any kind; the length of the text that is kept for the readings after it.
-fn one_case(kind: u32, kept: &mut [u8; TEXT], length: usize) -> usize {
+// A case of any kind; the length of the text that is kept for the readings after it, which is what was last written.
+fn one_case(kind: u32, kept: &mut [u8; TEXT], length: u32) -> u32 {
     match kind {
         1 => run_case(),
         2 => lane_case(),
-        3 => writing_case(),
-        4 => return keep_text(kept),
+        3 => return writing_case(kept),
         _ => reading_case(kept, length),
     }
     length
@@ -47,7 +45,7 @@ fn one_case(kind: u32, kept: &mut [u8; TEXT], length: usize) -> usize {
 
 fn main() {
     let mut kept = [0u8; TEXT];
-    let mut length: usize = 0;
+    let mut length: u32 = 0;
     let mut left: u32 = 4294967295;
     while left > 0 {
         let kind = number();

@@ -15,7 +15,7 @@ use host::replay_run;
 fn run_and_print(settings: &[u32; 8], image: &mut [u32], dst: &[u16], list: &[u32]) {
     let mut outcome = [0u32; 4];
     replay_run(settings, image, dst, list, &mut outcome);
-    print(b"run ", &outcome, checksum(NOTHING, image));
+    print(1, &outcome, checksum(NOTHING, image));
 }
 
 // The run over as much of each array as the case says.

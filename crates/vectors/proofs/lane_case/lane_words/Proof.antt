@@ -1,5 +1,5 @@
 -- `lane_words`: within the 24 words, and within the image.
-use Prim.Native.Nat.{_≤_, _-_, _+_, _*_}
+use Prim.Native.Nat.{_≤_, _-_}
 use borrow.Author.Needs.{needs}
 use lib.ListN.{length}
 use mathlib.Core.Path.{_≡_}
@@ -7,13 +7,13 @@ use Rattle.vectors.proofs.lane_case.lane_words.Statement.{statement}
 use Rattle.vectors.proofs.lane_case.lane_words.Tie as tie
 
 abbrev Inv-loop : tie.InvT-loop
-Inv-loop image lane words₀ at₀ slot₀ words at slot = (slot ≤ 24) × ((at + 32 * (24 - slot) ≤ 799) × (length words ≡ 24))
+Inv-loop image lane first words₀ slot₀ words slot = (slot ≤ 24) × ((first ≤ 31) × (length words ≡ 24))
 
 abbrev μ-loop : tie.MeasureT-loop
-μ-loop image lane words₀ at₀ slot₀ words at slot = 24 - slot
+μ-loop image lane first words₀ slot₀ words slot = 24 - slot
 
-cast-at : tie.Need-cast-at Inv-loop μ-loop
-cast-at c = search needs
+cast-first : tie.Need-cast-first Inv-loop μ-loop
+cast-first c = search needs
 
 loop-holds : tie.Need-loop-holds Inv-loop μ-loop
 loop-holds c = search needs
@@ -21,17 +21,20 @@ loop-holds c = search needs
 mul-words : tie.Need-mul-words Inv-loop μ-loop
 mul-words c = search needs
 
-element-copy-out-words : tie.Need-element-copy-out-words Inv-loop μ-loop
-element-copy-out-words c = search needs
+add-words : tie.Need-add-words Inv-loop μ-loop
+add-words c = search needs
 
 mul-words-2 : tie.Need-mul-words-2 Inv-loop μ-loop
 mul-words-2 c = search needs
 
+element-copy-out-words : tie.Need-element-copy-out-words Inv-loop μ-loop
+element-copy-out-words c = search needs
+
+mul-words-3 : tie.Need-mul-words-3 Inv-loop μ-loop
+mul-words-3 c = search needs
+
 array-write-words : tie.Need-array-write-words Inv-loop μ-loop
 array-write-words c = search needs
-
-add-at : tie.Need-add-at Inv-loop μ-loop
-add-at c = search needs
 
 add-slot : tie.Need-add-slot Inv-loop μ-loop
 add-slot c = search needs
@@ -51,13 +54,14 @@ lane-words-spec =
     (tie.spec
     Inv-loop
     μ-loop
-    cast-at
+    cast-first
     loop-holds
     mul-words
-    element-copy-out-words
+    add-words
     mul-words-2
+    element-copy-out-words
+    mul-words-3
     array-write-words
-    add-at
     add-slot
     loop-less
     loop-again

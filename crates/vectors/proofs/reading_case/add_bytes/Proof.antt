@@ -5,22 +5,22 @@ use Rattle.vectors.proofs.reading_case.add_bytes.Statement.{statement}
 use Rattle.vectors.proofs.reading_case.add_bytes.Tie as tie
 
 abbrev Inv-loop : tie.InvT-loop
-Inv-loop text₀ from count from' end at₀ text at = end ≤ 65700
+Inv-loop text₀ from end at₀ text at = end ≤ 65700
 
 abbrev μ-loop : tie.MeasureT-loop
-μ-loop text₀ from count from' end at₀ text at = end - at
+μ-loop text₀ from end at₀ text at = end - at
 
 at-most-requires : tie.Need-at-most-requires Inv-loop μ-loop
 at-most-requires c κs = search needs
 
-sub-at-most : tie.Need-sub-at-most Inv-loop μ-loop
-sub-at-most c = search needs
+place-requires : tie.Need-place-requires Inv-loop μ-loop
+place-requires c κs = search needs
+
+add-at-most : tie.Need-add-at-most Inv-loop μ-loop
+add-at-most c = search needs
 
 at-most-requires-2 : tie.Need-at-most-requires-2 Inv-loop μ-loop
 at-most-requires-2 c κs = search needs
-
-add-end : tie.Need-add-end Inv-loop μ-loop
-add-end c = search needs
 
 loop-holds : tie.Need-loop-holds Inv-loop μ-loop
 loop-holds c = search needs
@@ -53,9 +53,9 @@ add-bytes-spec =
     Inv-loop
     μ-loop
     at-most-requires
-    sub-at-most
+    place-requires
+    add-at-most
     at-most-requires-2
-    add-end
     loop-holds
     number-requires
     cast-text

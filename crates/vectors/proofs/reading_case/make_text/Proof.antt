@@ -1,12 +1,11 @@
--- `make_text`: the text is never longer than its room, and the pieces left fall.
-use Prim.Native.Nat.{_≤_}
+-- `make_text` ends: the pieces left fall.
 use borrow.Author.Needs.{needs}
 use lib.ListN.{length}
 use Rattle.vectors.proofs.reading_case.make_text.Statement.{statement}
 use Rattle.vectors.proofs.reading_case.make_text.Tie as tie
 
 abbrev Inv-loop : tie.InvT-loop
-Inv-loop kept length text₀ from₀ to₀ left₀ text from to left = to ≤ 65700
+Inv-loop kept length text₀ from₀ to₀ left₀ text from to left = Unit {0}
 
 abbrev μ-loop : tie.MeasureT-loop
 μ-loop kept length text₀ from₀ to₀ left₀ text from to left = left
@@ -26,8 +25,8 @@ copy-requires c κs = search needs
 place-requires-2 : tie.Need-place-requires-2 Inv-loop μ-loop
 place-requires-2 c κs = search needs
 
-add-piece-requires : tie.Need-add-piece-requires Inv-loop μ-loop
-add-piece-requires c κs = search needs
+add-bytes-requires : tie.Need-add-bytes-requires Inv-loop μ-loop
+add-bytes-requires c κs = search needs
 
 sub-left : tie.Need-sub-left Inv-loop μ-loop
 sub-left c = search needs
@@ -61,7 +60,7 @@ make-text-spec =
     place-requires
     copy-requires
     place-requires-2
-    add-piece-requires
+    add-bytes-requires
     sub-left
     loop-less
     loop-again

@@ -10,15 +10,12 @@ replay-read-requires : tie.Need-replay-read-requires
 replay-read-requires c κs = search needs
 
 slice-aggregate-print : tie.Need-slice-aggregate-print
-slice-aggregate-print c = search needs
-
-slice-aggregate-print-2 : tie.Need-slice-aggregate-print-2
 unfolding readingWords
-slice-aggregate-print-2 c = sym (ap length (c .before .before .before .before .replay-read .ensures .1 .1 .0))
+slice-aggregate-print c = sym (ap length (c .before .before .before .replay-read .ensures .1 .1 .0))
 
 slice-aggregate-checksum : tie.Need-slice-aggregate-checksum
 unfolding settingsWords
-slice-aggregate-checksum c = sym (ap length (c .before .before .before .before .before .replay-read .ensures .1 .0))
+slice-aggregate-checksum c = sym (ap length (c .before .before .before .before .replay-read .ensures .1 .0))
 
 checksum-requires : tie.Need-checksum-requires
 checksum-requires c κs = search needs
@@ -41,7 +38,6 @@ read-and-print-spec =
     (tie.spec
     replay-read-requires
     slice-aggregate-print
-    slice-aggregate-print-2
     slice-aggregate-checksum
     checksum-requires
     checksum-requires-2

@@ -6,20 +6,20 @@ use lib.Seq.{length-take-le}
 use Rattle.vectors.proofs.reading_case.read_lent.Statement.{statement}
 use Rattle.vectors.proofs.reading_case.read_lent.Tie as tie
 
-at-most-requires : tie.Need-at-most-requires
-at-most-requires c κs = search needs
+place-requires : tie.Need-place-requires
+place-requires c κs = search needs
 
-at-most-requires-2 : tie.Need-at-most-requires-2
-at-most-requires-2 c κs = search needs
+place-requires-2 : tie.Need-place-requires-2
+place-requires-2 c κs = search needs
 
 slice-aggregate-read-and-print : tie.Need-slice-aggregate-read-and-print
-slice-aggregate-read-and-print c = sym (length-take-le _ _ (c .before .before .at-most .ensures .0))
+slice-aggregate-read-and-print c = sym (length-take-le _ _ (c .before .before .place .ensures))
 
 slice-relend-prefix-read-and-print : tie.Need-slice-relend-prefix-read-and-print
 slice-relend-prefix-read-and-print c = search needs
 
 slice-aggregate-read-and-print-2 : tie.Need-slice-aggregate-read-and-print-2
-slice-aggregate-read-and-print-2 c = sym (length-take-le _ _ (c .before .before .at-most2 .ensures .0))
+slice-aggregate-read-and-print-2 c = sym (length-take-le _ _ (c .before .before .place2 .ensures))
 
 read-and-print-requires : tie.Need-read-and-print-requires
 read-and-print-requires c κs = search needs
@@ -34,8 +34,8 @@ pub read-lent-spec : {M : Type 1} → statement M
 read-lent-spec =
     tie.close
     (tie.spec
-    at-most-requires
-    at-most-requires-2
+    place-requires
+    place-requires-2
     slice-aggregate-read-and-print
     slice-relend-prefix-read-and-print
     slice-aggregate-read-and-print-2

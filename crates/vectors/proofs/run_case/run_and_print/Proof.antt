@@ -10,11 +10,8 @@ replay-run-requires : tie.Need-replay-run-requires
 replay-run-requires c κs = search needs
 
 slice-aggregate-print : tie.Need-slice-aggregate-print
-slice-aggregate-print c = search needs
-
-slice-aggregate-print-2 : tie.Need-slice-aggregate-print-2
 unfolding outcomeWords
-slice-aggregate-print-2 c = sym (ap length (c .before .before .before .before .replay-run .ensures .1 .0))
+slice-aggregate-print c = sym (ap length (c .before .before .before .replay-run .ensures .1 .0))
 
 checksum-requires : tie.Need-checksum-requires
 checksum-requires c κs = search needs
@@ -34,7 +31,6 @@ run-and-print-spec =
     (tie.spec
     replay-run-requires
     slice-aggregate-print
-    slice-aggregate-print-2
     checksum-requires
     print-requires
     same-length

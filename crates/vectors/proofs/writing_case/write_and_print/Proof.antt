@@ -10,17 +10,17 @@ replay-write-requires : tie.Need-replay-write-requires
 replay-write-requires c κs = search needs
 
 slice-aggregate-print : tie.Need-slice-aggregate-print
-slice-aggregate-print c = search needs
-
-slice-aggregate-print-2 : tie.Need-slice-aggregate-print-2
 unfolding writingWords
-slice-aggregate-print-2 c = sym (ap length (c .before .before .before .before .replay-write .ensures .1 .0))
+slice-aggregate-print c = sym (ap length (c .before .before .before .replay-write .ensures .1 .0))
 
 byte-checksum-requires : tie.Need-byte-checksum-requires
 byte-checksum-requires c κs = search needs
 
 print-requires : tie.Need-print-requires
 print-requires c κs = search needs
+
+array-read-result : tie.Need-array-read-result
+array-read-result c = search needs
 
 same-length : tie.Need-same-length
 same-length c = search needs
@@ -34,8 +34,8 @@ write-and-print-spec =
     (tie.spec
     replay-write-requires
     slice-aggregate-print
-    slice-aggregate-print-2
     byte-checksum-requires
     print-requires
+    array-read-result
     same-length
     returns)
