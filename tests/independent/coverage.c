@@ -27,15 +27,6 @@ static const char *const rare_names[RARE] = {
     "LUT whose sum is half way between two singles", "LUT of a NaN", "LUT whose sum is no number", "ABS, mod 1, of a NaN", "ABS, mod 0, of 80000000",
 };
 
-static float float_of(uint32_t bits)
-{
-    float f;
-    memcpy(&f, &bits, sizeof f);
-    return f;
-}
-
-static bool is_nan(uint32_t w) { return (w & 0x7FFFFFFF) > 0x7F800000; }
-
 static bool half_way(double exact)
 {
     float near = (float)exact;
@@ -51,16 +42,16 @@ static float coefficient(uint32_t byte)
 static void count_lut(const uint32_t *w)
 {
     uint32_t magnitude = w[3] & 0x7FFFFFFF;
-    float b = float_of(magnitude < 0x800000 ? 0 : magnitude);
+    float b = ind_float_of(magnitude < 0x800000 ? 0 : magnitude);
     uint32_t coeffs = b < 1.0f ? w[0] : b < 2.0f ? w[1] : w[2];
     float a = coefficient(coeffs >> 8 & 255), c = coefficient(coeffs & 255), product = a * b;
     rare[LUT_PRODUCT] += half_way((double)a * (double)b);
     rare[LUT_SUM] += half_way((double)product + (double)c);
-    rare[LUT_NAN] += is_nan(w[3]);
+    rare[LUT_NAN] += ind_is_nan(w[3]);
     rare[LUT_NO_NUMBER] += isnan(product + c) != 0;
 }
 
-/* A register's word in a lane's 24 words, of those that are stored; the others count as the lane's number would. */
+/* A register's word in a lane's 24 words, of those that are stored; any other counts as 1.0, so that no tie with one is counted as a NaN or a zero. */
 static uint32_t stored(const uint32_t *w, uint32_t reg)
 {
     return reg < 8 ? w[reg] : reg >= 11 && reg < 15 ? w[SLOT_R11 + reg - 11] : 0x3F800000;
@@ -74,15 +65,15 @@ static void count_rare(const uint32_t *insn, const uint32_t *w)
     if (insn[F_OP] == SWAP && insn[F_MOD] != 0) {
         rare[SWAP_SAME] += c == d;
         rare[SWAP_ZEROS] += (c ^ d) == 0x80000000 && (c & d) == 0 && (c | d) == 0x80000000;
-        rare[SWAP_NAN] += is_nan(c) || is_nan(d);
+        rare[SWAP_NAN] += ind_is_nan(c) || ind_is_nan(d);
     }
     if (insn[F_OP] == ABS) {
-        rare[ABS_NAN] += insn[F_MOD] == 1 && is_nan(c);
+        rare[ABS_NAN] += insn[F_MOD] == 1 && ind_is_nan(c);
         rare[ABS_LEAST] += insn[F_MOD] == 0 && c == 0x80000000;
     }
 }
 
-/* An instruction about to be done in `lanes` lanes, whose words stand every `stride`. */
+/* An instruction about to be done in so many lanes, whose words stand slot by slot. */
 static void count_done(const uint32_t settings[8], const uint32_t *insn, const uint32_t *words, unsigned lanes)
 {
     uint32_t op = insn[F_OP], bits = 0;

@@ -39,6 +39,8 @@ uint32_t ind_insn_fault(const uint32_t insn[6]);                                
 uint32_t ind_list_fault(const uint32_t *list, size_t count, uint32_t *place);       /* the first faulty instruction decides */
 
 /* machine.c */
+float ind_float_of(uint32_t bits);
+bool ind_is_nan(uint32_t bits);
 uint32_t ind_run(const uint32_t settings[8], uint32_t *image, size_t image_len, const uint16_t *dst, size_t dst_len,
                  const uint32_t *list, size_t list_len, uint32_t outcome[4]);
 uint32_t ind_lane(const uint32_t settings[8], uint32_t lane, const uint32_t insn[6], uint32_t own[24], const uint32_t head[24],

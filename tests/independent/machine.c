@@ -109,7 +109,7 @@ static void sfpload(struct machine *m, const uint32_t *insn)
 
 /* LUT: document 001, with document 01's two roundings and canonical NaN */
 
-static float float_of(uint32_t bits)
+float ind_float_of(uint32_t bits)
 {
     float f;
     memcpy(&f, &bits, sizeof f);
@@ -126,12 +126,12 @@ static uint32_t bits_of(float f)
 static float lut8_to_fp32(uint32_t x)
 {
     if (x == 0xFF) return 0;
-    return float_of(x >> 7 << 31 | (127 - (x >> 4 & 7)) << 23 | (x & 0xF) << 19);
+    return ind_float_of(x >> 7 << 31 | (127 - (x >> 4 & 7)) << 23 | (x & 0xF) << 19);
 }
 
 static bool denormal_or_zero(uint32_t bits) { return (bits & 0x7F800000) == 0; }
 
-static bool is_nan(uint32_t bits) { return (bits & 0x7FFFFFFF) > 0x7F800000; }
+bool ind_is_nan(uint32_t bits) { return (bits & 0x7FFFFFFF) > 0x7F800000; }
 
 static void sfplut(struct machine *m, const uint32_t *insn)
 {
@@ -140,14 +140,14 @@ static void sfplut(struct machine *m, const uint32_t *insn)
         if (!(vd < 12 || config_bit(m, lane, DISABLE_BACKDOOR_LOAD)) || !enabled(m, lane)) continue;
         uint32_t *w = m->word[lane];
         uint32_t l3 = w[3], magnitude = l3 & 0x7FFFFFFF;
-        float b = float_of(denormal_or_zero(magnitude) ? 0 : magnitude);
+        float b = ind_float_of(denormal_or_zero(magnitude) ? 0 : magnitude);
         uint32_t coeffs = b < 1.0f ? w[0] : b < 2.0f ? w[1] : w[2];
         float a = lut8_to_fp32(coeffs >> 8 & 0xFF);
         float c = lut8_to_fp32(coeffs & 0xFF);
         float product = a * b;
         uint32_t d = bits_of(product + c);
         if (denormal_or_zero(d)) d &= 0x80000000;
-        if (is_nan(d)) d = 0x7FC00000;
+        if (ind_is_nan(d)) d = 0x7FC00000;
         if (mod & 4) d = (d & 0x7FFFFFFF) | (l3 & 0x80000000);
         uint32_t target = mod & 8 ? w[7] & 15 : vd;
         if (target < 8) w[target] = d;
@@ -263,7 +263,7 @@ static void sfpabs(struct machine *m, const uint32_t *insn)
         if (!enabled(m, lane) || insn[F_VD] >= 8) continue;
         uint32_t c = lreg(m, insn[F_VC], lane), result;
         if (insn[F_MOD] == 0) result = c >> 31 ? 0u - c : c;
-        else result = is_nan(c) ? c : c & 0x7FFFFFFF;
+        else result = ind_is_nan(c) ? c : c & 0x7FFFFFFF;
         m->word[lane][insn[F_VD]] = result;
     }
 }
