@@ -382,7 +382,7 @@ static inline uint32_t fault(const uint32_t *settings, const uint32_t *image, si
 
 /* The run */
 
-static const row register8 = ALL(0x3F566189), register9 = ALL(0), register10 = ALL(0x3F800000);
+static const row register8 = ALL(0x3F56594B), register9 = ALL(0), register10 = ALL(0x3F800000);
 static const row register15 = {0,  2,  4,  6,  8,  10, 12, 14, 16, 18, 20, 22, 24, 26, 28, 30,
                                32, 34, 36, 38, 40, 42, 44, 46, 48, 50, 52, 54, 56, 58, 60, 62};
 

@@ -21,7 +21,7 @@ extern "C" {
 
 /* What is replayed: 1000 is document 01 by itself, and 1000 plus n is with the requests up to M-n. A later request may change what a word
  * means, so a host that loads the library at run time compares this with replay_version(). */
-#define REPLAY_VERSION 1000
+#define REPLAY_VERSION 1100
 
 /* The words of an image, the cells of a Dst, the words of the longest list, and the bytes of the longest listing and report. */
 #define REPLAY_IMAGE 768

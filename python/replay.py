@@ -15,7 +15,7 @@ import os
 from array import array
 from dataclasses import astuple, dataclass
 
-VERSION = 1000
+VERSION = 1100
 IMAGE, DST, LIST, TEXT, REPORT, LANES = 768, 16384, 6144, 46184, 11188, 32
 
 # The ops by number, and the answers in the clerk's words.

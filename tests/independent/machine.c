@@ -27,7 +27,7 @@ enum { ENABLE_FP16A_INF = 1 << 0, BLOCK_SFPU_RD_FROM_DEST = 1 << 1, ENABLE_DEST_
 static uint32_t lreg(const struct machine *m, uint32_t reg, unsigned lane)
 {
     switch (reg) {
-    case 8:  return 0x3F566189;
+    case 8:  return 0x3F56594B; /* M-100 */
     case 9:  return 0;
     case 10: return 0x3F800000;
     case 11: case 12: case 13: case 14: return m->word[lane][SLOT_R11 + reg - 11];

@@ -1,4 +1,4 @@
-/* Document 01's examples and the readings it warns of, one assertion each; all by way of the four calls a host has. */
+/* Document 01's examples and the readings it warns of, and what document 02 changes, one assertion each; all by way of the four calls a host has. */
 #include "independent.h"
 
 #include <inttypes.h>
@@ -137,22 +137,29 @@ static void tempting(void)
 }
 
 /* The whole word of a register that is not stored, copied out by OR. */
-static uint32_t copied(uint32_t reg, uint32_t in_lane)
+static uint32_t copied(uint32_t reg, uint32_t edition, uint32_t in_lane)
 {
     fresh();
-    lane = in_lane;
+    settings[0] = edition, lane = in_lane;
     CHECK(act(OR, 0, reg, reg, 0, 1) == 0);
     return own[0];
 }
 
 static void constants(void)
 {
-    for (uint32_t l = 0; l < LANES; l++) {
-        CHECK(copied(8, l) == 0x3F566189);
-        CHECK(copied(9, l) == 0);
-        CHECK(copied(10, l) == 0x3F800000);
-        CHECK(copied(15, l) == 2 * l);
+    for (uint32_t edition = 1; edition <= 2; edition++) {
+        for (uint32_t l = 0; l < LANES; l++) {
+            CHECK(copied(8, edition, l) == 0x3F56594B);
+            CHECK(copied(9, edition, l) == 0);
+            CHECK(copied(10, edition, l) == 0x3F800000);
+            CHECK(copied(15, edition, l) == 2 * l);
+        }
     }
+    /* M-100: "the nearest single to 0.8373", as the C compiler finds it by itself. */
+    const float nearest = 0.8373f;
+    uint32_t word;
+    memcpy(&word, &nearest, sizeof word);
+    CHECK(copied(8, 1, 0) == word);
 }
 
 static void more_lut(void)
@@ -219,7 +226,7 @@ static void more_lane(void)
     CHECK(act(ABS, 0, 0, 2, 0, 1) == 0 && own[0] == 0xFF800001);
     CHECK(act(ABS, 0, 0, 3, 0, 1) == 0 && own[0] == 0x3F800000);
     CHECK(act(EXMAN, 0, 0, 2, 0, 0) == 0 && own[0] == 0x800001);
-    CHECK(act(AND, 0, 8, 10, 0, 1) == 0 && own[0] == (0x3F566189 & 0x3F800000));
+    CHECK(act(AND, 0, 8, 10, 0, 1) == 0 && own[0] == (0x3F56594B & 0x3F800000));
     lane = 31;
     CHECK(act(NOT, 0, 0, 15, 0, 0) == 0 && own[0] == ~62u);
     CHECK(act(LOADI, 0xABCD, 0, 0, 0, 8) == 0 && own[0] == 0xABCDFFC1);

@@ -8,3 +8,5 @@ pub mod Stores
 pub mod Answers
 pub mod Accepted
 pub mod Depends
+-- Why register 8 holds its word: nothing cites it.
+pub mod Register8

@@ -69,9 +69,10 @@ laneOf ws s = getD ws s 0
 abbrev pub wordsOf : Lane → List ℕ
 wordsOf own = build 24 own
 
--- "Registers never stored: 8 holds 0x3F566189, 9 holds 0, 10 holds 0x3F800000, 15 twice the lane number."
+-- "Registers never stored: 8 holds .., 9 holds 0, 10 holds 0x3F800000, 15 twice the lane number." Document 02, M-100, replaces document 01's word of
+-- register 8: "The nearest single to 0.8373 is 0x3F56594B. Use that in both editions." (proofs/Register8.antt shows that no single lies nearer.)
 unfoldable pub fixedWord : ℕ → ℕ → ℕ
-fixedWord r L = pick (eqb r 8) 0x3F566189 (pick (eqb r 9) 0 (pick (eqb r 10) 0x3F800000 (2 * L)))
+fixedWord r L = pick (eqb r 8) 0x3F56594B (pick (eqb r 9) 0 (pick (eqb r 10) 0x3F800000 (2 * L)))
 
 -- Register r is stored in the image: 0 to 7, and 11 to 14, at its slot.
 abbrev pub isStored : ℕ → Bool

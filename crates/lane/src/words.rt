@@ -34,7 +34,7 @@ pub fn fixed_word(r: u32, lane: u8) -> u32
     ensures { λ w. ⌜ w ≡ Words.fixedWord r lane ⌝ }
 {
     if r == 8 {
-        0x3F566189
+        0x3F56594B
     } else if r == 9 {
         0
     } else if r == 10 {
