@@ -45,7 +45,7 @@ pub not-within-half : withinHalf 0x3F566189 ≡ false
 unfolding pick
 not-within-half = refl
 
--- Values are the library's: a word that is a number with no sign has this one.
+-- The library has the same value, for every word below infinity's.
 of-fields : (x t : ℕ) → x < 255 → HasValue (ofFields binary32 false x t) false (pick (eqb x 0) t (2 ^ 23 + t) * 2 ^ (x - 1)) (2 ^ 149)
 unfolding ofFields pick
 of-fields zero t h = odd-sign 24 false t 0 149
