@@ -62,7 +62,7 @@ value-is w h = rw (lt-leb (2 ^ 31) w (omega arith)) (rw (field w h) (of-fields (
     field : (w : ℕ) → w < 0x7F800000 → w % 2 ^ 31 / 2 ^ 23 ≡ exponent w
     field w h = omega arith
 
--- Register 8's digits are 0xD6594B. Times p they lie nearer 0.8373 * 2 ^ 24 p than any other multiple of p, and than what is below 2 ^ 23 p.
+-- Register 8's digits are 0xD6594B. Than these times p, no multiple of p lies nearer 0.8373 * 2 ^ 24 p, nor does anything up to 2 ^ 23 p.
 abbrev least : ℕ
 least = apart (10000 * 0xD6594B) (8373 * 2 ^ 24)
 
