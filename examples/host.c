@@ -57,8 +57,8 @@ int main(void)
     show(2);
     show(9);
 
-    /* Op 16 is none: refused, and the image is as it was, though the first instruction is good. */
-    static const uint32_t faulty[] = {REPLAY_OP_LOADI, 7, 0, 0, 1, 10, 16, 0, 0, 0, 0, 0};
+    /* Op 17 is none: refused, and image and Dst are as they were, though the first instruction is good. */
+    static const uint32_t faulty[] = {REPLAY_OP_LOADI, 7, 0, 0, 1, 10, 17, 0, 0, 0, 0, 0};
     run(settings, faulty, sizeof faulty / sizeof *faulty);
     show(1);
     return 0;

@@ -60,12 +60,12 @@ int main()
     // An empty vector may be lent as it is, though its data() may be null: an empty list is done at once, an image of no words is not one.
     std::vector<uint32_t> image(REPLAY_IMAGE);
     std::vector<uint32_t> none;
-    const std::vector<uint16_t> dst(REPLAY_DST);
+    std::vector<uint16_t> dst(REPLAY_DST);
     std::array<uint32_t, 4> outcome;
     say("no list", replay_run(settings.data(), image.data(), image.size(), dst.data(), dst.size(), none.data(), none.size(), outcome.data()));
     say("no image", replay_run(settings.data(), none.data(), none.size(), dst.data(), dst.size(), none.data(), none.size(), outcome.data()));
 
-    // LaneConfig of lane 0 out of form: refused, and the image is as it was.
+    // LaneConfig of lane 0 out of form: refused, and image and Dst are as they were.
     image[REPLAY_AT_LANE_CONFIG] = 1u << 18;
     say("bad image", replay_run(settings.data(), image.data(), image.size(), dst.data(), dst.size(), none.data(), none.size(), outcome.data()));
 }

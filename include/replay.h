@@ -1,12 +1,12 @@
 /* The replay for C and C++. bin/install makes libreplay.a and libreplay.so, for x86-64; replay_text.h has names to print.
  *
  * Everything is lent by the caller. The library keeps nothing between calls, allocates nothing, and writes only to what is passed without
- * `const`. Parts lent to one call must not overlap. Calls that share nothing writable may run at the same time. On the stack, running
- * takes some 2 KB, reading 26, writing 48 and a report 90.
+ * `const`. Parts lent to one call must not overlap. Calls that share nothing writable, no Dst either, may run at the same time. On the
+ * stack, running takes some 2 KB, reading 26, writing 48 and a report 90.
  *
  * Pointers. A length counts elements, not bytes. A part that comes with a length may be NULL where that length is 0, as the data() of an
- * empty std::vector often is: nothing is read or written through it. Every other pointer (settings, outcome, insn, own, head, length) has
- * no length and is never NULL.
+ * empty std::vector often is: nothing is read or written through it. Every other pointer (settings, outcome, insn, own, head, cells,
+ * length) has no length and is never NULL.
  *
  * Each function but the last three returns the answer: REPLAY_DONE if all was done, else the number of the refusal. */
 #ifndef REPLAY_H
@@ -21,7 +21,7 @@ extern "C" {
 
 /* What is replayed: 1000 is document 01 by itself, and 1000 plus n is with the requests up to M-n. A later request may change what a word
  * means, so a host that loads the library at run time compares this with replay_version(). */
-#define REPLAY_VERSION 1100
+#define REPLAY_VERSION 1101
 
 /* The words of an image, the cells of a Dst, the words of the longest list, and the bytes of the longest listing and report. */
 #define REPLAY_IMAGE 768
@@ -64,7 +64,8 @@ enum replay_op {
     REPLAY_OP_LZ = 12,
     REPLAY_OP_EXEXP = 13,
     REPLAY_OP_EXMAN = 14,
-    REPLAY_OP_NOP = 15
+    REPLAY_OP_NOP = 15,
+    REPLAY_OP_STORE = 16
 };
 
 /* The six words of an instruction. */
@@ -126,18 +127,18 @@ enum replay_at {
     REPLAY_AT_MISC = 736                /* each below 2^12 */
 };
 
-/* Runs a list over an image.
+/* Runs a list over an image and a Dst.
  *
  *   settings  by enum replay_setting
  *   image     768 words, by enum replay_at
- *   dst       16,384 cells, row by row, 16 in a row
+ *   dst       16,384 cells, row by row, 16 in a row; LOAD reads it and STORE writes it
  *   list      six words an instruction, by enum replay_insn
  *   outcome   answer, steps, place, cursor
  *
- * Done: the image is the one after the list, steps is the number of instructions, place 0, and cursor the final one.
- * Refused, by 1 to 9: the image is untouched, steps is 0, cursor the one given, and place the index of the instruction from 0 for 7 to 9,
- * else 0. */
-uint32_t replay_run(const uint32_t settings[8], uint32_t *image, size_t image_len, const uint16_t *dst, size_t dst_len,
+ * Done: image and Dst are those after the list, steps is the number of instructions, place 0, and cursor the final one.
+ * Refused, by 1 to 9: image and Dst are untouched, steps is 0, cursor the one given, and place the index of the instruction from 0 for 7
+ * to 9, else 0. */
+uint32_t replay_run(const uint32_t settings[8], uint32_t *image, size_t image_len, uint16_t *dst, size_t dst_len,
                     const uint32_t *list, size_t list_len, uint32_t outcome[4]);
 
 /* One instruction in one lane.
@@ -147,12 +148,13 @@ uint32_t replay_run(const uint32_t settings[8], uint32_t *image, size_t image_le
  *   insn      op, imm, vb, vc, vd, mod
  *   own       the lane's 24 words, in the image's order: its word of each register and of each part that follows
  *   head      the 24 words of row 0's lane of the same column (for a lane of row 0, a copy of its own)
- *   even, odd the two cells of the lane's row and column in Dst, at the instruction's address
+ *   cells     the two cells of the lane's row and column in Dst at the instruction's address, the even one and the odd one
  *
- * Done: `own` has the lane's words after the instruction. The cursor is the caller's: after a LOAD it is (cursor + stride vb) mod 1024.
- * Refused, by 3, 6, 7, 8 (also a lane above 31) or 9: `own` is untouched. */
+ * Done: `own` and `cells` are the lane's words and the two cells after the instruction. The cursor is the caller's: after a LOAD or a STORE
+ * it is (cursor + stride vb) mod 1024.
+ * Refused, by 3, 6, 7, 8 (also a lane above 31) or 9: `own` and `cells` are untouched. */
 uint32_t replay_lane(const uint32_t settings[8], uint32_t lane, const uint32_t insn[6], uint32_t own[24], const uint32_t head[24],
-                     uint16_t even, uint16_t odd);
+                     uint16_t cells[2]);
 
 /* Reads a listing.
  *

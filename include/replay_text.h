@@ -23,6 +23,7 @@ static inline const char *replay_op_name(uint32_t op)
     case REPLAY_OP_EXEXP: return "EXEXP";
     case REPLAY_OP_EXMAN: return "EXMAN";
     case REPLAY_OP_NOP: return "NOP";
+    case REPLAY_OP_STORE: return "STORE";
     default: return "unknown";
     }
 }

@@ -1,11 +1,11 @@
 """The proved replay from Python: libreplay.so by ctypes, with the standard library alone. include/replay.h says what each function promises.
 
-Words are array('I'), cells array('H'), texts bytes. An image is changed in place; nothing is where an answer is a refusal:
+Words are array('I'), cells array('H'), texts bytes. An image and a Dst are changed in place; nothing is where an answer is a refusal:
 
-    settings, words, outcome = read(open("examples/sort-step.lst", "rb").read())
-    state = image()
-    outcome = run(settings, state, dst(), words)
-    print(outcome.text, register(state, 0))
+    settings, words, outcome = read(open("examples/store-and-load.lst", "rb").read())
+    state, cells = image(), dst()
+    outcome = run(settings, state, cells, words)
+    print(outcome.text, register(state, 0), cells[:16])
 
 The library is REPLAY_LIBRARY where that is set, else the one of the prefix or the repository that this file is in. It is for x86-64.
 """
@@ -15,11 +15,11 @@ import os
 from array import array
 from dataclasses import astuple, dataclass
 
-VERSION = 1100
+VERSION = 1101
 IMAGE, DST, LIST, TEXT, REPORT, LANES = 768, 16384, 6144, 46184, 11188, 32
 
 # The ops by number, and the answers in the clerk's words.
-OPS = (None, "LOAD", "LOADI", "LUT", "SWAP", "CONFIG", "IADD", "ABS", "AND", "OR", "XOR", "NOT", "LZ", "EXEXP", "EXMAN", "NOP")
+OPS = (None, "LOAD", "LOADI", "LUT", "SWAP", "CONFIG", "IADD", "ABS", "AND", "OR", "XOR", "NOT", "LZ", "EXEXP", "EXMAN", "NOP", "STORE")
 ANSWERS = (
     "all done",
     "image not 768 words",
@@ -71,22 +71,21 @@ def image():
 
 
 def dst():
-    """A Dst of zeros."""
+    """A Dst of zeros, row by row, 16 cells in a row."""
     return array("H", [0]) * DST
 
 
 def run(settings, image, dst, words):
-    """Runs a list, six words an instruction, over an image, which it changes in place."""
+    """Runs a list, six words an instruction, over an image and a Dst, which it changes in place."""
     words, outcome = array("I", words), _zeros(4)
     _library.replay_run(_settings(settings), *_part(image, "I"), *_part(dst, "H"), *_part(words, "I"), _fixed(outcome, 4))
     return Outcome(*outcome)
 
 
-def lane(settings, lane, insn, own, head, even=0, odd=0):
-    """One instruction in one lane, whose 24 words it changes in place. Returns the answer."""
-    (lane,), (even, odd) = array("I", [lane]), array("H", [even, odd])
-    insn, head = array("I", insn), array("I", head)
-    return _library.replay_lane(_settings(settings), lane, _fixed(insn, 6), _fixed(own, 24), _fixed(head, 24), even, odd)
+def lane(settings, lane, insn, own, head, cells):
+    """One instruction in one lane, whose 24 words and two cells, the even and the odd one, it changes in place. Returns the answer."""
+    (lane,), insn, head = array("I", [lane]), array("I", insn), array("I", head)
+    return _library.replay_lane(_settings(settings), lane, _fixed(insn, 6), _fixed(own, 24), _fixed(head, 24), _fixed(cells, 2, "H"))
 
 
 def read(text):
@@ -140,10 +139,10 @@ def _part(values, code):
     return (_TYPES[code] * len(values)).from_buffer(values), len(values)
 
 
-def _fixed(values, count):
+def _fixed(values, count, code="I"):
     if len(values) != count:
-        raise ValueError(f"{count} words expected, not {len(values)}")
-    return _part(values, "I")[0]
+        raise ValueError(f"array('{code}') of {count} expected, not of {len(values)}")
+    return _part(values, code)[0]
 
 
 def _settings(settings):
@@ -171,10 +170,10 @@ def _load(path):
         raise ImportError(f"{path} can't be used: {error}") from error
     if found != VERSION:
         raise ImportError(f"{path} has version {found}, and this file {VERSION}")
-    pointer, size, word, cell = ctypes.c_void_p, ctypes.c_size_t, ctypes.c_uint32, ctypes.c_uint16
+    pointer, size, word = ctypes.c_void_p, ctypes.c_size_t, ctypes.c_uint32
     for name, result, arguments in (
         ("replay_run", word, [pointer, pointer, size, pointer, size, pointer, size, pointer]),
-        ("replay_lane", word, [pointer, word, pointer, pointer, pointer, cell, cell]),
+        ("replay_lane", word, [pointer, word, pointer, pointer, pointer, pointer]),
         ("replay_read", word, [ctypes.c_char_p, size, pointer, size, pointer, pointer]),
         ("replay_write", word, [pointer, pointer, size, pointer, size, pointer]),
         ("replay_report", word, [ctypes.c_char_p, size, pointer, size, pointer]),

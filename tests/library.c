@@ -8,6 +8,8 @@
 #include <stdlib.h>
 #include <string.h>
 
+enum { LAST_OP = REPLAY_OP_STORE };
+
 static uint32_t image[REPLAY_IMAGE], list[REPLAY_LIST], settings[8], outcome[5];
 static uint16_t dst[REPLAY_DST];
 static uint8_t text[REPLAY_TEXT], room[REPLAY_REPORT + 1];
@@ -23,6 +25,7 @@ static void expect(int holds, const char *what, unsigned n)
 static void start(void)
 {
     memset(image, 0, sizeof image);
+    memset(dst, 0, sizeof dst);
     memset(settings, 0, sizeof settings);
     settings[REPLAY_SETTING_EDITION] = 1;
     settings[REPLAY_SETTING_SRCB] = 2;
@@ -49,10 +52,10 @@ static void ops(void)
 {
     char line[32];
     start();
-    for (uint32_t op = REPLAY_OP_LOAD; op <= REPLAY_OP_NOP; op++) {
+    for (uint32_t op = REPLAY_OP_LOAD; op <= LAST_OP; op++) {
         uint32_t insn[6] = {0};
         insn[REPLAY_INSN_OP] = op;
-        insn[REPLAY_INSN_MOD] = op == REPLAY_OP_LOADI ? 8 : 0;
+        insn[REPLAY_INSN_MOD] = op == REPLAY_OP_LOADI ? 8 : op == REPLAY_OP_STORE ? 2 : 0;
         expect(replay_write(settings, insn, 6, text, REPLAY_TEXT - 1, outcome) == REPLAY_DONE, "written", op);
         text[outcome[REPLAY_OUTCOME_LENGTH]] = 0;
         snprintf(line, sizeof line, "\nop=%s imm=", replay_op_name(op));
@@ -60,8 +63,8 @@ static void ops(void)
         expect(replay_read(text, outcome[REPLAY_OUTCOME_LENGTH], list, REPLAY_LIST, settings, outcome) == REPLAY_DONE, "read", op);
         expect(outcome[REPLAY_OUTCOME_LENGTH] == 6 && memcmp(list, insn, sizeof insn) == 0, "and is what was written", op);
     }
-    expect(strcmp(replay_op_name(0), "unknown") == 0 && strcmp(replay_op_name(REPLAY_OP_NOP + 1), "unknown") == 0, "no name past the ops", 0);
-    expect(run_one(0, 0, 0, 0, 0) == REPLAY_UNKNOWN_OP && run_one(REPLAY_OP_NOP + 1, 0, 0, 0, 0) == REPLAY_UNKNOWN_OP, "no op past the names", 0);
+    expect(strcmp(replay_op_name(0), "unknown") == 0 && strcmp(replay_op_name(LAST_OP + 1), "unknown") == 0, "no name past the ops", 0);
+    expect(run_one(0, 0, 0, 0, 0) == REPLAY_UNKNOWN_OP && run_one(LAST_OP + 1, 0, 0, 0, 0) == REPLAY_UNKNOWN_OP, "no op past the names", 0);
 }
 
 /* Each answer that a host can be given, by a call that is to get it. */
@@ -74,7 +77,7 @@ static void answers(void)
     expect(replay_run(settings, image, REPLAY_IMAGE, dst, REPLAY_DST - 1, nops, 6, outcome) == REPLAY_BAD_DST_LENGTH, "Dst length", 2);
     expect(replay_run(settings, image, REPLAY_IMAGE, dst, REPLAY_DST, nops, 5, outcome) == REPLAY_BAD_LIST_LENGTH, "list length", 4);
     expect(replay_run(settings, image, REPLAY_IMAGE, dst, REPLAY_DST, nops, REPLAY_LIST + 6, outcome) == REPLAY_TOO_MANY, "too many", 5);
-    expect(run_one(16, 0, 0, 0, 0) == REPLAY_UNKNOWN_OP, "op", 7);
+    expect(run_one(LAST_OP + 1, 0, 0, 0, 0) == REPLAY_UNKNOWN_OP, "op", 7);
     expect(run_one(REPLAY_OP_NOP, 1, 0, 0, 0) == REPLAY_BAD_FIELD, "field", 8);
     expect(run_one(REPLAY_OP_LOAD, 0, 0, 0, 3) == REPLAY_BAD_LOAD_MOD, "LOAD mod", 9);
     expect(replay_read((const uint8_t *)"\n", 1, list, REPLAY_LIST, settings, outcome) == REPLAY_BAD_TEXT, "text", 10);
@@ -132,15 +135,60 @@ static void sizes(void)
     expect(outcome[REPLAY_OUTCOME_LENGTH] == REPLAY_LIST, "to a list that long", outcome[REPLAY_OUTCOME_LENGTH]);
 }
 
-/* A lane's words are in the image's order. */
+static void refused_run(const uint32_t *words, size_t dst_len, uint32_t answer)
+{
+    static const uint32_t no_words[REPLAY_IMAGE] = {0};
+    static const uint16_t no_cells[REPLAY_DST] = {0};
+    start();
+    expect(replay_run(settings, image, REPLAY_IMAGE, dst, dst_len, words, 18, outcome) == answer, "refused", answer);
+    expect(memcmp(image, no_words, sizeof image) == 0, "the image is as it was", answer);
+    expect(memcmp(dst, no_cells, sizeof dst) == 0, "Dst is as it was", answer);
+}
+
+/* Dst is written by STORE, in the cells of its address alone, and not where anything in the list is refused. */
+static void stores(void)
+{
+    uint32_t insns[18] = {REPLAY_OP_STORE, 4, 0, 0, 10, 2, REPLAY_OP_LOAD, 4, 0, 0, 5, 2, REPLAY_OP_STORE, 1022, 0, 0, 15, 6};
+    start();
+    expect(replay_run(settings, image, REPLAY_IMAGE, dst, REPLAY_DST, insns, 18, outcome) == REPLAY_DONE, "done", 0);
+    for (unsigned lane_at = 0; lane_at < REPLAY_LANES; lane_at++) {
+        unsigned at = lane_at / 8 * 16 + lane_at % 8 * 2;
+        expect(dst[4 * 16 + at] == 0x007F && dst[1020 * 16 + at + 1] == 2 * lane_at, "what is stored", lane_at);
+        expect(image[REPLAY_AT_REGISTER_5 + lane_at] == 0x3F800000, "and loaded again", lane_at);
+        dst[4 * 16 + at] = dst[1020 * 16 + at + 1] = 0;
+    }
+    for (unsigned at = 0; at < REPLAY_DST; at++) expect(dst[at] == 0, "and nothing else", at);
+
+    refused_run(insns, REPLAY_DST - 1, REPLAY_BAD_DST_LENGTH);
+    insns[12 + REPLAY_INSN_MOD] = 3;
+    refused_run(insns, REPLAY_DST, REPLAY_BAD_FIELD);
+    insns[12 + REPLAY_INSN_OP] = REPLAY_OP_LOAD;
+    refused_run(insns, REPLAY_DST, REPLAY_BAD_LOAD_MOD);
+    insns[12 + REPLAY_INSN_OP] = LAST_OP + 1;
+    refused_run(insns, REPLAY_DST, REPLAY_UNKNOWN_OP);
+}
+
+/* A lane's words are in the image's order, its cells even and odd; both are lent both ways. */
 static void lane(void)
 {
     uint32_t insn[6] = {REPLAY_OP_LOADI, 40, 0, 0, 1, 10}, own[24] = {0}, head[24] = {0};
+    uint32_t load[6] = {REPLAY_OP_LOAD, 2, 0, 0, 2, 6}, store[6] = {REPLAY_OP_STORE, 0, 0, 0, 1, 9};
+    uint16_t cells[2] = {0x1111, 0x2222};
     start();
-    expect(replay_lane(settings, 9, insn, own, head, 0, 0) == REPLAY_DONE, "done", 0);
+    expect(replay_lane(settings, 9, insn, own, head, cells) == REPLAY_DONE, "done", 0);
     expect(own[REPLAY_AT_REGISTER_1 / REPLAY_LANES] == 40, "the register's slot", own[1]);
+    expect(replay_lane(settings, 9, load, own, head, cells) == REPLAY_DONE && own[2] == 0x2222, "the odd cell is read", own[2]);
+    expect(cells[0] == 0x1111 && cells[1] == 0x2222, "and stays", cells[1]);
+    expect(replay_lane(settings, 9, store, own, head, cells) == REPLAY_DONE && cells[0] == 40, "the even cell is written", cells[0]);
+    expect(cells[1] == 0x2222, "and the odd one stays", cells[1]);
+    own[1] = 41;
+    store[REPLAY_INSN_VC] = 1;
+    expect(replay_lane(settings, 9, store, own, head, cells) == REPLAY_BAD_FIELD, "a field", 0);
+    store[REPLAY_INSN_VC] = 0;
+    expect(replay_lane(settings, REPLAY_LANES, store, own, head, cells) == REPLAY_BAD_FIELD, "no such lane", 0);
     own[REPLAY_AT_MISC / REPLAY_LANES] = 1u << 12;
-    expect(replay_lane(settings, 9, insn, own, head, 0, 0) == REPLAY_BAD_IMAGE, "Misc's slot", 0);
+    expect(replay_lane(settings, 9, store, own, head, cells) == REPLAY_BAD_IMAGE, "Misc's slot", 0);
+    expect(cells[0] == 40 && cells[1] == 0x2222 && own[1] == 41, "a refusal leaves cells and words", cells[0]);
 }
 
 static void config_at(uint32_t vd, unsigned at)
@@ -242,7 +290,7 @@ static void report(const char *listing, const char *stored)
 
 static void names(void)
 {
-    for (uint32_t op = 1; op <= REPLAY_OP_NOP; op++) printf("op %u %s\n", (unsigned)op, replay_op_name(op));
+    for (uint32_t op = 1; op <= LAST_OP; op++) printf("op %u %s\n", (unsigned)op, replay_op_name(op));
     for (uint32_t answer = 0; answer <= REPLAY_TOO_LONG; answer++) printf("answer %u %s\n", (unsigned)answer, replay_refusal_text(answer));
     expect(strcmp(replay_refusal_text(REPLAY_TOO_LONG + 1), "unknown") == 0, "no text past the answers", 0);
 }
@@ -250,7 +298,8 @@ static void names(void)
 int main(int argc, char **argv)
 {
     static const struct { const char *name; void (*topic)(void); } topics[] = {
-        {"version", version}, {"ops", ops}, {"answers", answers}, {"words", words}, {"sizes", sizes}, {"lane", lane}, {"parts", parts}, {"nulls", nulls}, {"names", names},
+        {"version", version}, {"ops", ops}, {"answers", answers}, {"words", words}, {"sizes", sizes},
+        {"stores", stores}, {"lane", lane}, {"parts", parts}, {"nulls", nulls}, {"names", names},
     };
     if (argc == 4 && strcmp(argv[1], "report") == 0) {
         report(argv[2], argv[3]);

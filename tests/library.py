@@ -48,9 +48,20 @@ for listing in glob.glob(os.path.join(root, "examples/*.lst")):
         for reg, lane, word in re.findall(rb"reg=(\d+) lane=(\d+) word=(\w+)", stored):
             assert replay.register(image, int(reg))[int(lane)] == int(word, 16), listing
 
-# A lane, nothing lent, and what would not fit.
-own = array("I", [0]) * 24
-assert replay.lane(replay.Settings(), 9, [2, 40, 0, 0, 1, 10], own, own) == 0 and own[1] == 40
+# Dst is written where STORE says, and by nothing where the list is refused.
+state, cells, store = replay.image(), replay.dst(), [replay.OPS.index("STORE"), 4, 0, 0, 10, 2]
+assert replay.run(replay.Settings(), state, cells, store + [len(replay.OPS), 0, 0, 0, 0, 0]) == replay.Outcome(7, 0, 1, 0)
+assert not any(cells)
+assert replay.run(replay.Settings(), state, cells, store).done and not any(state)
+assert [at for at, cell in enumerate(cells) if cell] == [16 * row + column for row in range(4, 8) for column in range(0, 16, 2)]
+assert set(cells) == {0, 0x007F}
+
+# A lane and its cells, nothing lent, and what would not fit.
+own, cells = array("I", [0]) * 24, array("H", [0x1111, 0x2222])
+assert replay.lane(replay.Settings(), 9, [2, 40, 0, 0, 1, 10], own, own, cells) == 0 and own[1] == 40
+assert replay.lane(replay.Settings(), 9, [1, 2, 0, 0, 2, 6], own, own, cells) == 0 and own[2] == 0x2222
+assert replay.lane(replay.Settings(), 9, store[:1] + [0, 0, 0, 1, 9], own, own, cells) == 0 and list(cells) == [40, 0x2222]
+assert replay.lane(replay.Settings(), 9, store[:1] + [0, 0, 0, 2, 8], own, own, cells) == 8 and list(cells) == [40, 0x2222]
 assert replay.run(replay.Settings(), array("I"), array("H"), []).answer == 1
 assert replay.run(replay.Settings(), replay.image(), replay.dst(), []).done
 assert replay.read(b"")[2] == replay.Outcome(10, 0, 1, 0) and replay.write(replay.Settings(), [])[1].length == 104
@@ -58,5 +69,7 @@ assert not replay.register(replay.image(), 9) and not replay.register(array("I")
 assert refuses(OverflowError, replay.run, replay.Settings(), replay.image(), replay.dst(), [1 << 32] * 6)
 assert refuses(OverflowError, replay.register, replay.image(), 1 << 32)
 assert refuses(OverflowError, replay.run, replay.Settings(cursor=-1), replay.image(), replay.dst(), [])
-assert refuses(ValueError, replay.lane, replay.Settings(), 9, [2, 40], own, own)
+assert refuses(ValueError, replay.lane, replay.Settings(), 9, [2, 40], own, own, cells)
+assert refuses(ValueError, replay.lane, replay.Settings(), 9, [2, 40, 0, 0, 1, 10], own, own, cells[:1])
+assert refuses(TypeError, replay.lane, replay.Settings(), 9, [2, 40, 0, 0, 1, 10], own, own, [0, 0])
 assert refuses(TypeError, replay.run, replay.Settings(), [0] * 768, replay.dst(), [])

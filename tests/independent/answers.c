@@ -14,6 +14,12 @@ static uint32_t checksum(uint32_t h, const uint32_t *words, size_t len)
     return h;
 }
 
+static uint32_t cell_checksum(uint32_t h, const uint16_t *cells, size_t len)
+{
+    for (size_t i = 0; i < len; i++) h = mixed(h, cells[i]);
+    return h;
+}
+
 static uint32_t byte_checksum(const uint8_t *bytes, size_t len)
 {
     uint32_t h = NOTHING;
@@ -32,13 +38,13 @@ static void answer_run(struct run_case *r, FILE *out)
 {
     uint32_t o[4];
     ind_run(r->settings, r->image, r->image_len, r->dst, r->dst_len, r->list, r->list_len, o);
-    print(out, RUN_CASE, o, 4, checksum(NOTHING, r->image, r->image_len));
+    print(out, RUN_CASE, o, 4, cell_checksum(checksum(NOTHING, r->image, r->image_len), r->dst, r->dst_len));
 }
 
 static void answer_lane(struct lane_case *l, FILE *out)
 {
-    uint32_t answer = ind_lane(l->settings, l->lane, l->insn, l->own, l->head, l->even, l->odd);
-    print(out, LANE_CASE, &answer, 1, checksum(NOTHING, l->own, SLOTS));
+    uint32_t answer = ind_lane(l->settings, l->lane, l->insn, l->own, l->head, l->cells);
+    print(out, LANE_CASE, &answer, 1, cell_checksum(checksum(NOTHING, l->own, SLOTS), l->cells, 2));
 }
 
 static void answer_reading(const struct reading_case *r, FILE *out)
@@ -74,36 +80,63 @@ static void show_list(const uint32_t settings[8], const uint32_t *list, size_t l
     fprintf(out, "count=%04zu\n", list_len / 6);
     for (size_t i = 0; i + 6 <= list_len; i += 6) {
         const uint32_t *n = list + i;
-        if (n[F_OP] >= LOAD && n[F_OP] <= NOP) fprintf(out, "op=%s", ind_names[n[F_OP]]);
+        if (ind_op_known(n[F_OP])) fprintf(out, "op=%s", ind_names[n[F_OP]]);
         else fprintf(out, "op=%" PRIu32, n[F_OP]);
         fprintf(out, " imm=%05" PRIu32 " vb=%02" PRIu32 " vc=%02" PRIu32 " vd=%02" PRIu32 " mod=%02" PRIu32 "\n",
                 n[F_IMM], n[F_VB], n[F_VC], n[F_VD], n[F_MOD]);
     }
 }
 
+static void show_cells(const char *what, const uint16_t *cells, FILE *out)
+{
+    fprintf(out, "%s", what);
+    for (int i = 0; i < 16; i++) fprintf(out, " %04X", cells[i]);
+    fprintf(out, "\n");
+}
+
+/* The rows of Dst that a run changes. */
+static void show_dst(const struct run_case *c, FILE *out)
+{
+    static struct run_case r;
+    uint32_t o[4];
+    r = *c;
+    if (ind_run(r.settings, r.image, r.image_len, r.dst, r.dst_len, r.list, r.list_len, o) != 0) return;
+    for (size_t at = 0; at < DST_CELLS; at += 16) {
+        if (memcmp(c->dst + at, r.dst + at, 16 * sizeof *r.dst) == 0) continue;
+        fprintf(out, "row=%04zu\n", at / 16);
+        show_cells("  before", c->dst + at, out);
+        show_cells("  after ", r.dst + at, out);
+    }
+}
+
+static void show_run(const struct run_case *r, FILE *out)
+{
+    show_list(r->settings, r->list, r->list_len, out);
+    fprintf(out, "list of %zu words, image of %zu words, Dst of %zu cells\n", r->list_len, r->image_len, r->dst_len);
+    for (unsigned s = 0; s < SLOTS; s++) {
+        fprintf(out, "slot=%02u", s);
+        for (unsigned l = 0; l < LANES; l++) fprintf(out, " %08" PRIX32, r->image[LANES * s + l]);
+        fprintf(out, "\n");
+    }
+    show_dst(r, out);
+}
+
 static void show_lane(const struct lane_case *l, FILE *out)
 {
-    uint32_t own[SLOTS];
-    memcpy(own, l->own, sizeof own);
+    struct lane_case a = *l;
     show_list(l->settings, l->insn, 6, out);
-    fprintf(out, "lane=%" PRIu32 " even=%04X odd=%04X\n", l->lane, l->even, l->odd);
-    ind_lane(l->settings, l->lane, l->insn, own, l->head, l->even, l->odd);
+    ind_lane(a.settings, a.lane, a.insn, a.own, a.head, a.cells);
+    fprintf(out, "lane=%" PRIu32 " even=%04X odd=%04X after: even=%04X odd=%04X\n", l->lane, l->cells[0], l->cells[1], a.cells[0], a.cells[1]);
     for (int s = 0; s < SLOTS; s++)
-        fprintf(out, "slot=%02d own=%08" PRIX32 " head=%08" PRIX32 " after=%08" PRIX32 "%s\n", s, l->own[s], l->head[s], own[s],
-                own[s] != l->own[s] ? " changed" : "");
+        fprintf(out, "slot=%02d own=%08" PRIX32 " head=%08" PRIX32 " after=%08" PRIX32 "%s\n", s, l->own[s], l->head[s], a.own[s],
+                a.own[s] != l->own[s] ? " changed" : "");
 }
 
 static void show(const struct any_case *c, FILE *out)
 {
     switch (c->kind) {
     case RUN_CASE:
-        show_list(c->run.settings, c->run.list, c->run.list_len, out);
-        fprintf(out, "list of %zu words, image of %zu words, Dst of %zu cells\n", c->run.list_len, c->run.image_len, c->run.dst_len);
-        for (unsigned s = 0; s < SLOTS; s++) {
-            fprintf(out, "slot=%02u", s);
-            for (unsigned l = 0; l < LANES; l++) fprintf(out, " %08" PRIX32, c->run.image[LANES * s + l]);
-            fprintf(out, "\n");
-        }
+        show_run(&c->run, out);
         break;
     case LANE_CASE:
         show_lane(&c->lane, out);

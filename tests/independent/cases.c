@@ -14,19 +14,21 @@ static const uint16_t cells[16] = {
     0x0000, 0x8000, 0x7FFF, 0xFFFF, 0x007F, 0x807F, 0x001F, 0x7FDF, 0x7FE0, 0xFFE0, 0x00FF, 0x80FF, 0x00A0, 0x80A0, 0x1FE0, 0x0001,
 };
 static const uint8_t likely[16] = { 48, 49, 50, 53, 57, 61, 32, 10, 13, 111, 65, 68, 73, 47, 58, 0 };
-static const char *const odd_names[5] = { "LOADX", "LOA", "Nop", "", "SFPABS" };
+static const char *const odd_names[6] = { "LOADX", "LOA", "Nop", "", "SFPABS", "STOR" };
+/* By 9 for LOAD, and for STORE by 8 like any other. */
 static const uint32_t refused_mods[4] = { 3, 4, 10, 12 };
 
 /* Not shared with checks.c: a slip in one of the two tables should show as a difference. */
-static const uint32_t limits[16][4] = {
+static const uint32_t limits[OPS][4] = {
     [LOAD] = { 1024, 4, 1, 16 }, [LOADI] = { 65536, 1, 1, 16 }, [LUT] = { 1, 1, 1, 16 }, [SWAP] = { 1, 1, 16, 16 },
     [CONFIG] = { 65536, 1, 1, 16 }, [IADD] = { 4096, 1, 16, 16 }, [ABS] = { 1, 1, 16, 16 }, [AND] = { 1, 16, 16, 16 },
     [OR] = { 1, 16, 16, 16 }, [XOR] = { 1, 1, 16, 16 }, [NOT] = { 1, 1, 16, 16 }, [LZ] = { 1, 1, 16, 16 },
     [EXEXP] = { 1, 1, 16, 16 }, [EXMAN] = { 1, 1, 16, 16 }, [NOP] = { 1, 1, 1, 1 },
+    [STORE] = { 1024, 4, 1, 16 },
 };
 #define ALL_MODS { 0, 1, 2, 3, 4, 5, 6, 7, 8, 9, 10, 11, 12, 13, 14, 15 }
 #define MODS_01  { 0, 1, 0, 1, 0, 1, 0, 1, 0, 1, 0, 1, 0, 1, 0, 1 }
-static const uint8_t mods[16][16] = {
+static const uint8_t mods[OPS][16] = {
     [LOAD] = { 0, 1, 2, 5, 6, 7, 8, 9, 11, 13, 14, 15, 0, 1, 2, 13 },
     [LOADI] = { 8, 10, 8, 10, 8, 10, 8, 10, 8, 10, 8, 10, 8, 10, 8, 10 },
     [LUT] = { 0, 4, 8, 12, 0, 4, 8, 12, 0, 4, 8, 12, 0, 4, 8, 12 },
@@ -34,6 +36,7 @@ static const uint8_t mods[16][16] = {
     [LZ] = { 0, 2, 4, 6, 8, 10, 12, 14, 0, 2, 4, 6, 8, 10, 12, 14 },
     [EXEXP] = { 0, 1, 2, 3, 8, 9, 10, 11, 0, 1, 2, 3, 8, 9, 10, 11 },
     [EXMAN] = MODS_01,
+    [STORE] = { 2, 6, 7, 9, 2, 6, 7, 9, 2, 6, 7, 9, 2, 6, 7, 9 },
 };
 
 /* Draws */
@@ -81,15 +84,28 @@ static void make_settings(uint32_t settings[8])
     }
 }
 
-static void make_insn(uint32_t insn[6])
+static void make_op(uint32_t insn[6], uint32_t op)
 {
-    uint32_t op = 1 + below(15);
     insn[F_OP] = op;
     for (int f = 0; f < 3; f++) insn[F_IMM + f] = below(limits[op][f]);
     uint32_t d = below(32), m = below(16);
     insn[F_MOD] = mods[op][m];
-    insn[F_VD] = op == NOP ? 0 : d < 16 ? d : op == CONFIG ? 8 + d % 8 : d % 8;
+    insn[F_VD] = op == NOP ? 0 : d < 16 ? d : op == CONFIG ? 8 + d % 8 : op == STORE ? d % 16 : d % 8;
     if ((op == AND || op == OR) && insn[F_MOD] == 0) insn[F_VB] = 0;
+}
+
+static void make_insn(uint32_t insn[6]) { make_op(insn, 1 + below(OPS - 1)); }
+
+/* A STORE and right after it a LOAD of the same address, in any two of STORE's mods; at times in Dst's last rows. */
+static void make_pair(const uint32_t settings[8], uint32_t *store)
+{
+    uint32_t *load = store + 6;
+    make_op(store, STORE);
+    make_op(load, LOAD);
+    if (below(4) == 0) store[F_IMM] = (1021 + below(3) + 2048 - settings[S_OFFSET] - settings[S_CURSOR]) % 1024;
+    load[F_IMM] = (store[F_IMM] + 1024 - settings[S_STRIDE0 + store[F_VB]]) % 1024;
+    load[F_VD] %= 8;
+    load[F_MOD] = mods[STORE][below(16)];
 }
 
 /* A list: the instructions that are given, which repeat up to its length. */
@@ -134,18 +150,21 @@ static void damage_too_many(struct list *l)
     l->len = e < 6 ? 6150 + e : 6150;
 }
 
-/* An instruction among `count`. */
+static uint32_t load_or_store(void) { return below(3) == 0 ? STORE : LOAD; }
+
+/* An instruction among `count`. At times it comes after a STORE, which must not be done then. */
 static void damage_insn(uint32_t *list, size_t count)
 {
     if (count == 0) return;
     uint32_t t = below(4), q = below((uint32_t)count), place = t == 0 ? 0 : t == 1 ? (uint32_t)count - 1 : q;
     uint32_t *insn = list + 6 * place, z = below(12);
+    if (place > 0 && below(2) == 0) make_op(insn - 6, STORE);
     if (z < 1) {
         uint32_t v = below(4), w = word();
-        insn[F_OP] = v == 0 ? 0 : v == 1 ? 16 : v == 2 ? 16 + w % 65536 : w;
+        insn[F_OP] = v == 0 ? 0 : v == 1 ? OPS : v == 2 ? OPS + w % 65536 : w;
     } else if (z < 6) {
         uint32_t f = below(5), v = below(4), d = draw();
-        uint32_t row = insn[F_OP] >= LOAD && insn[F_OP] <= NOP ? insn[F_OP] : NOP;
+        uint32_t row = ind_op_known(insn[F_OP]) ? insn[F_OP] : NOP;
         insn[F_IMM + f] = out_of(f == 4 ? 16 : limits[row][f], v, d);
     } else if (z == 6) {
         insn[F_OP] = 8 + below(2);
@@ -157,7 +176,7 @@ static void damage_insn(uint32_t *list, size_t count)
     } else if (z < 10) {
         insn[F_MOD] = below(17);
     } else {
-        insn[F_OP] = LOAD;
+        insn[F_OP] = load_or_store();
         insn[F_IMM] = below(1024);
         insn[F_VB] = below(4);
         insn[F_VC] = below(4) == 0;
@@ -253,6 +272,7 @@ static void make_run(void)
     uint32_t count = run_count();
     make_settings(settings);
     make_list(&list, count, 1 + below(6));
+    if (list.given >= 2 && below(4) == 0) make_pair(settings, list.word + 6 * below((uint32_t)list.given - 1));
     make_image(&image);
     for (int n = damages(); n > 0; n--) {
         switch (below(10)) {
@@ -297,14 +317,23 @@ static void make_lane_settings(uint32_t settings[8])
 }
 
 /* Every op, and an unknown one, with every mod up to 16, refused in turn: by its mod or, where that is allowed, by a field. */
-static void make_refused(uint32_t insn[6], uint32_t j)
+static void make_refused_mod(uint32_t insn[6], uint32_t j)
 {
-    make_insn(insn);
-    insn[F_OP] = 1 + j % 16;
-    insn[F_MOD] = j / 16 % 17;
+    uint32_t op = 1 + j % OPS;
+    make_op(insn, ind_op_known(op) ? op : NOP);
+    insn[F_OP] = op;
+    insn[F_MOD] = j / OPS % 17;
     if (ind_insn_fault(insn) != 0) return;
     uint32_t f = below(4);
-    insn[F_IMM + f] = limits[insn[F_OP]][f] + (below(2) == 0 ? 0 : draw());
+    insn[F_IMM + f] = limits[op][f] + (below(2) == 0 ? 0 : draw());
+}
+
+/* Every op with each of its fields, refused in turn: by the first number out of range, and next time by another. */
+static void make_refused_field(uint32_t insn[6], uint32_t j)
+{
+    uint32_t op = 1 + j % (OPS - 1), turn = j / (OPS - 1), f = turn % 4;
+    make_op(insn, op);
+    insn[F_IMM + f] = limits[op][f] + (turn / 4 % 2 == 0 ? 0 : draw());
 }
 
 static void make_lane(uint32_t k)
@@ -312,7 +341,8 @@ static void make_lane(uint32_t k)
     uint32_t settings[8], insn[6], lane = below(32), head = below(2) == 0 ? lane % 8 : below(32), v;
     struct image image;
     make_lane_settings(settings);
-    if (k % 5 == 0) make_refused(insn, k / 5);
+    if (k % 10 == 0) make_refused_mod(insn, k / 10);
+    else if (k % 10 == 5) make_refused_field(insn, k / 10);
     else make_insn(insn);
     make_image(&image);
     for (int n = k % 5 == 0 ? 0 : damages(); n > 0; n--) {
@@ -344,7 +374,7 @@ static size_t bytes_needed(const struct list *l)
     size_t needed = 104;
     for (size_t i = 0; i < l->len / 6; i++) {
         uint32_t op = l->given > 0 ? l->word[6 * (i % l->given)] : 0;
-        needed += 39 + (op >= LOAD && op <= NOP ? strlen(ind_names[op]) : 3);
+        needed += 39 + (ind_op_known(op) ? strlen(ind_names[op]) : 3);
     }
     return needed;
 }
@@ -453,9 +483,9 @@ static bool damage_text(struct text *t)
         for (size_t i = 9; i >= 6; i--, w /= 10) t->byte[a + i] = (uint8_t)(48 + w % 10);
         break;
     case 12: case 13: {
-        v = below(20);
+        v = 1 + below(OPS - 1 + 6);
         if (lines <= 9) break;
-        const char *name = v < 15 ? ind_names[v + 1] : odd_names[v - 15];
+        const char *name = v < OPS ? ind_names[v] : odd_names[v - OPS];
         a = find_line(t, 9 + below(lines - 9));
         if (line_end(t, a) - a < 4 || memcmp(t->byte + a, "op=", 3) != 0) break;
         for (b = a + 3; t->byte[b] != 32 && t->byte[b] != 10;) b++;
@@ -487,7 +517,7 @@ static bool damage_text(struct text *t)
         if (lines <= 9) break;
         a = find_line(t, 9 + below(lines - 9));
         v = refused_mods[below(4)];
-        snprintf((char *)copy, sizeof copy, "op=LOAD imm=00000 vb=00 vc=00 vd=00 mod=%02" PRIu32 "\n", v);
+        snprintf((char *)copy, sizeof copy, "op=%s imm=00000 vb=00 vc=00 vd=00 mod=%02" PRIu32 "\n", ind_names[load_or_store()], v);
         splice(t, a, line_end(t, a), copy, strlen((char *)copy));
     }
     return kind != 17;

@@ -1,4 +1,4 @@
-/* What is refused: document 01, "The clerk's numbers" and "Fields". */
+/* What is refused: document 01, "The clerk's numbers" and "Fields", and document 02's ops. */
 #include "independent.h"
 
 bool ind_settings_good(const uint32_t settings[8])
@@ -21,7 +21,9 @@ bool ind_slot_good(unsigned slot, uint32_t word)
     }
 }
 
-/* One line for each sentence of "Fields"; a field that is not named must be 0. */
+bool ind_op_known(uint32_t op) { return op >= LOAD && op < OPS; }
+
+/* One line for each sentence of "Fields", and M-101's; a field that is not named must be 0. */
 uint32_t ind_insn_fault(const uint32_t insn[6])
 {
     const uint32_t imm = insn[F_IMM], vb = insn[F_VB], vc = insn[F_VC], vd = insn[F_VD], mod = insn[F_MOD];
@@ -45,6 +47,7 @@ uint32_t ind_insn_fault(const uint32_t insn[6])
     case LZ:     good = no_imm && no_vb && reg_vc && reg_vd && any_mod && mod % 2 == 0; break;
     case EXEXP:  good = no_imm && no_vb && reg_vc && reg_vd && any_mod && (mod & 4) == 0; break;
     case NOP:    good = no_imm && no_vb && no_vc && no_vd && mod == 0; break;
+    case STORE:  good = imm < 1024 && vb < 4 && no_vc && reg_vd && (mod == 2 || mod == 6 || mod == 7 || mod == 9); break;
     default:     return 7;
     }
     if (!good) return 8;

@@ -10,11 +10,13 @@ enum { WORDS = 17 };                        /* the last column: 16 and more */
 struct tally {
     unsigned long answer[4][12];            /* runs, lanes, writing, reading */
     unsigned long cases[4];
-    unsigned long mod[16][WORDS];           /* instructions of runs and lanes that were done, by op */
-    unsigned long vd[16][WORDS];
-    unsigned long edition[16][WORDS];
-    unsigned long config[16][18];           /* with the bit set in an enabled lane */
-    unsigned long refused[17][WORDS];       /* by 7, 8 or 9, by op (16 for an unknown one) and mod */
+    unsigned long mod[OPS][WORDS];          /* instructions of runs and lanes that were done, by op */
+    unsigned long vd[OPS][WORDS];
+    unsigned long edition[OPS][WORDS];
+    unsigned long config[OPS][18];          /* with the bit set in an enabled lane */
+    unsigned long refused[OPS + 1][WORDS];  /* by 7, 8 or 9, by op (OPS for an unknown one) and mod */
+    unsigned long field[OPS][WORDS];        /* by 8, by op and field */
+    unsigned long pair[10][WORDS];          /* lanes filled from the cell that was stored just before, by STORE's mod and LOAD's */
 };
 
 static struct tally t;
@@ -26,6 +28,23 @@ static const char *const rare_names[RARE] = {
     "SWAP, mod not 0, of two equal words", "SWAP, mod not 0, of the two zeros", "SWAP, mod not 0, with a NaN", "LUT whose product is half way between two singles",
     "LUT whose sum is half way between two singles", "LUT of a NaN", "LUT whose sum is no number", "ABS, mod 1, of a NaN", "ABS, mod 0, of 80000000",
 };
+
+/* What STORE meets, in lanes and then as an instruction. */
+enum { EVEN, ODD_ADDRESS, ODD_ROW0, ODD_BOTH, OWN_BIT5, BIT1, NOT_ENABLED, LAST_ROWS, WRAPS, REFUSED_LATER, STORES };
+static unsigned long stores[STORES];
+static const char *const store_names[STORES] = {
+    "lanes, to the even column", "lanes, to the odd column by the address", "lanes, to the odd column by bit 5 of row 0's lane", "lanes, to the odd column by both",
+    "lanes whose own bit 5 would choose the other column", "lanes with bit 1 set", "lanes not enabled", "instructions at an address past 1,020",
+    "instructions that take the cursor past 1,023", "instructions of a run, before the one that it is refused for",
+};
+
+/* A lane's words, out of those of so many lanes, which stand slot by slot. */
+static void take_lane(uint32_t w[SLOTS], const uint32_t *words, unsigned lanes, unsigned lane)
+{
+    for (unsigned s = 0; s < SLOTS; s++) w[s] = words[lanes * s + lane];
+}
+
+static bool enabled(const uint32_t *w) { return w[SLOT_USE] == 0 || w[SLOT_FLAG] == 1; }
 
 static bool half_way(double exact)
 {
@@ -60,7 +79,7 @@ static uint32_t stored(const uint32_t *w, uint32_t reg)
 static void count_rare(const uint32_t *insn, const uint32_t *w)
 {
     uint32_t c = stored(w, insn[F_VC]), d = stored(w, insn[F_VD]);
-    if (w[SLOT_USE] == 1 && w[SLOT_FLAG] == 0) return;
+    if (!enabled(w)) return;
     if (insn[F_OP] == LUT) count_lut(w);
     if (insn[F_OP] == SWAP && insn[F_MOD] != 0) {
         rare[SWAP_SAME] += c == d;
@@ -73,8 +92,25 @@ static void count_rare(const uint32_t *insn, const uint32_t *w)
     }
 }
 
-/* An instruction about to be done in so many lanes, whose words stand slot by slot. */
-static void count_done(const uint32_t settings[8], const uint32_t *insn, const uint32_t *words, unsigned lanes)
+static uint32_t address(const uint32_t settings[8], const uint32_t *insn)
+{
+    return (insn[F_IMM] + settings[S_OFFSET] + settings[S_CURSOR]) % 1024;
+}
+
+static void count_store(uint32_t addr, const uint32_t *w, uint32_t row0_config)
+{
+    bool by_address = addr >> 1 & 1, by_row0 = row0_config >> 5 & 1, own = w[SLOT_CONFIG] >> 5 & 1;
+    if (!enabled(w)) {
+        stores[NOT_ENABLED]++;
+        return;
+    }
+    stores[by_address ? by_row0 ? ODD_BOTH : ODD_ADDRESS : by_row0 ? ODD_ROW0 : EVEN]++;
+    stores[OWN_BIT5] += !by_address && own != by_row0;
+    stores[BIT1] += w[SLOT_CONFIG] >> 1 & 1;
+}
+
+/* An instruction about to be done in so many lanes; and LaneConfig of row 0's. */
+static void count_done(const uint32_t settings[8], const uint32_t *insn, const uint32_t *words, unsigned lanes, const uint32_t *row0_configs)
 {
     uint32_t op = insn[F_OP], bits = 0;
     t.mod[op][insn[F_MOD]]++;
@@ -82,17 +118,46 @@ static void count_done(const uint32_t settings[8], const uint32_t *insn, const u
     t.edition[op][settings[S_EDITION]]++;
     for (unsigned lane = 0; lane < lanes; lane++) {
         uint32_t w[SLOTS];
-        for (unsigned s = 0; s < SLOTS; s++) w[s] = words[lanes * s + lane];
-        if (w[SLOT_USE] == 0 || w[SLOT_FLAG] == 1) bits |= w[SLOT_CONFIG];
+        take_lane(w, words, lanes, lane);
+        if (enabled(w)) bits |= w[SLOT_CONFIG];
         count_rare(insn, w);
+        if (op == STORE) count_store(address(settings, insn), w, row0_configs[lane % 8]);
+    }
+    if (op == STORE) {
+        stores[LAST_ROWS] += address(settings, insn) > 1020;
+        stores[WRAPS] += settings[S_CURSOR] + settings[S_STRIDE0 + insn[F_VB]] > 1023;
     }
     for (int b = 0; b < 18; b++) t.config[op][b] += bits >> b & 1;
+}
+
+/* Two instructions in a row whose addresses agree, the second about to be done. */
+static void count_pair(const uint32_t *store, const uint32_t *load, const uint32_t *image)
+{
+    if (store[F_OP] != STORE || load[F_OP] != LOAD || load[F_VD] >= 8) return;
+    for (unsigned lane = 0; lane < LANES; lane++) {
+        uint32_t w[SLOTS];
+        take_lane(w, image, LANES, lane);
+        t.pair[store[F_MOD]][load[F_MOD]] += enabled(w) && (w[SLOT_CONFIG] >> 1 & 1) == 0;
+    }
+}
+
+/* The field without which an instruction would not be refused by 8. */
+static int field_at_fault(const uint32_t *insn)
+{
+    for (int f = F_IMM; f < F_MOD; f++) {
+        uint32_t mended[6];
+        memcpy(mended, insn, sizeof mended);
+        mended[f] = 0;
+        if (ind_insn_fault(mended) != 8) return f;
+    }
+    return F_MOD;
 }
 
 static void count_refused(const uint32_t *insn)
 {
     uint32_t op = insn[F_OP], mod = insn[F_MOD];
-    t.refused[op >= LOAD && op <= NOP ? op : 16][mod < 16 ? mod : 16]++;
+    t.refused[ind_op_known(op) ? op : OPS][mod < 16 ? mod : 16]++;
+    if (ind_insn_fault(insn) == 8) t.field[op][field_at_fault(insn)]++;
 }
 
 static void count_answer(int where, uint32_t answer, const uint32_t *insn)
@@ -106,26 +171,29 @@ static void count_answer(int where, uint32_t answer, const uint32_t *insn)
 static void count_run(const struct run_case *c)
 {
     static struct run_case r;
-    uint32_t o[4];
+    uint32_t o[4], last = 0;
     r = *c;
     ind_run(r.settings, r.image, r.image_len, r.dst, r.dst_len, r.list, r.list_len, o);
     count_answer(0, o[O_ANSWER], r.list + 6 * o[O_PLACE]);
+    for (size_t i = 0; i < o[O_PLACE]; i++) stores[REFUSED_LATER] += r.list[6 * i] == STORE;
     if (o[O_ANSWER] != 0) return;
     r = *c;
     for (size_t i = 0; i < r.list_len; i += 6) {
-        count_done(r.settings, r.list + i, r.image, LANES);
-        ind_run(r.settings, r.image, r.image_len, r.dst, r.dst_len, r.list + i, 6, o);
+        const uint32_t *insn = r.list + i, addr = address(r.settings, insn);
+        if (i > 0 && addr == last) count_pair(insn - 6, insn, r.image);
+        count_done(r.settings, insn, r.image, LANES, r.image + LANES * SLOT_CONFIG);
+        ind_run(r.settings, r.image, r.image_len, r.dst, r.dst_len, insn, 6, o);
         r.settings[S_CURSOR] = o[O_CURSOR];
+        last = addr;
     }
 }
 
 static void count_lane(const struct lane_case *l)
 {
-    uint32_t own[SLOTS];
-    memcpy(own, l->own, sizeof own);
-    uint32_t answer = ind_lane(l->settings, l->lane, l->insn, own, l->head, l->even, l->odd);
+    struct lane_case a = *l;
+    uint32_t answer = ind_lane(a.settings, a.lane, a.insn, a.own, a.head, a.cells);
     count_answer(1, answer, l->insn);
-    if (answer == 0) count_done(l->settings, l->insn, l->own, 1);
+    if (answer == 0) count_done(l->settings, l->insn, l->own, 1, l->head + SLOT_CONFIG);
 }
 
 static void count_writing(const struct writing_case *w)
@@ -150,35 +218,49 @@ static void count_case(const struct any_case *c)
     }
 }
 
-static void print_by(FILE *out, const char *what, const unsigned long *counts, int rows, int width, int first, int columns)
+/* A row for each that has a name. */
+static void print_by(FILE *out, const char *what, const char *const *names, int rows, const unsigned long *counts, int width, int first, int columns)
 {
     fprintf(out, "\n%s\n        ", what);
     for (int i = first; i < columns; i++) fprintf(out, " %6d", i);
     fprintf(out, "\n");
-    for (int op = 1; op < rows; op++) {
-        fprintf(out, "%-8s", op < 16 ? ind_names[op] : "unknown");
+    for (int row = 0; row < rows; row++) {
+        if (names[row] == NULL) continue;
+        fprintf(out, "%-8s", names[row]);
         for (int i = first; i < columns; i++) {
-            if (counts[op * width + i] == 0) fprintf(out, "      .");
-            else fprintf(out, " %6lu", counts[op * width + i]);
+            if (counts[row * width + i] == 0) fprintf(out, "      .");
+            else fprintf(out, " %6lu", counts[row * width + i]);
         }
         fprintf(out, "\n");
     }
 }
 
+static void print_lines(FILE *out, const char *what, const char *const *names, const unsigned long *counts, int lines)
+{
+    fprintf(out, "\n%s\n", what);
+    for (int i = 0; i < lines; i++) fprintf(out, "%8lu  %s\n", counts[i], names[i]);
+}
+
 void ind_coverage(FILE *in, FILE *out)
 {
     static struct any_case c;
+    static const char *const mods[10] = { [2] = "STORE 2", [6] = "STORE 6", [7] = "STORE 7", [9] = "STORE 9" };
+    const char *ops[OPS + 1];
+    memcpy(ops, ind_names, sizeof ind_names);
+    ops[OPS] = "unknown";
     while (ind_next(in, &c)) count_case(&c);
 
     fprintf(out, "answer     runs    lanes  writing  reading\n");
     for (int a = 0; a < 12; a++)
         fprintf(out, "%6d %8lu %8lu %8lu %8lu\n", a, t.answer[0][a], t.answer[1][a], t.answer[2][a], t.answer[3][a]);
     fprintf(out, "   all %8lu %8lu %8lu %8lu\n", t.cases[0], t.cases[1], t.cases[2], t.cases[3]);
-    print_by(out, "executed, by mod", t.mod[0], 16, WORDS, 0, 16);
-    print_by(out, "executed, by vd", t.vd[0], 16, WORDS, 0, 16);
-    print_by(out, "executed, by edition", t.edition[0], 16, WORDS, 1, 3);
-    print_by(out, "executed with a bit of LaneConfig set in an enabled lane", t.config[0], 16, 18, 0, 18);
-    print_by(out, "refused by 7, 8 or 9, by mod (the last column: mod 16 and more)", t.refused[0], 17, WORDS, 0, WORDS);
-    fprintf(out, "\nties and NaN, in enabled lanes\n");
-    for (int i = 0; i < RARE; i++) fprintf(out, "%8lu  %s\n", rare[i], rare_names[i]);
+    print_by(out, "executed, by mod", ops, OPS, t.mod[0], WORDS, 0, 16);
+    print_by(out, "executed, by vd", ops, OPS, t.vd[0], WORDS, 0, 16);
+    print_by(out, "executed, by edition", ops, OPS, t.edition[0], WORDS, 1, 3);
+    print_by(out, "executed with a bit of LaneConfig set in an enabled lane", ops, OPS, t.config[0], 18, 0, 18);
+    print_by(out, "refused by 7, 8 or 9, by mod (the last column: mod 16 and more)", ops, OPS + 1, t.refused[0], WORDS, 0, WORDS);
+    print_by(out, "refused by 8, by field (1 imm, 2 vb, 3 vc, 4 vd, 5 mod, or several)", ops, OPS, t.field[0], WORDS, 1, 6);
+    print_lines(out, "ties and NaN, in enabled lanes", rare_names, rare, RARE);
+    print_lines(out, "STORE, by lanes and by instructions", store_names, stores, STORES);
+    print_by(out, "STORE, and right after it LOAD of the same address: lanes that it fills, by LOAD's mod", mods, 10, t.pair[0], WORDS, 0, 16);
 }

@@ -113,8 +113,7 @@ static void make_lane(struct lane_case *l)
         l->own[s] = image[LANES * s + l->lane % LANES];
         l->head[s] = image[LANES * s + head % LANES];
     }
-    l->even = (uint16_t)number();
-    l->odd = (uint16_t)number();
+    for (int i = 0; i < 2; i++) l->cells[i] = (uint16_t)number();
 }
 
 /* The room is what is kept, so that a writing is done where its case is read. */

@@ -20,7 +20,8 @@
 
 enum { LANES = 32, SLOTS = 24, IMAGE_WORDS = 768, DST_CELLS = 16384, MAX_INSNS = 1024, TEXT_LIMIT = 65536 };
 
-enum { LOAD = 1, LOADI, LUT, SWAP, CONFIG, IADD, ABS, AND, OR, XOR, NOT, LZ, EXEXP, EXMAN, NOP };
+/* OPS is the first number past them that is no op. */
+enum { LOAD = 1, LOADI, LUT, SWAP, CONFIG, IADD, ABS, AND, OR, XOR, NOT, LZ, EXEXP, EXMAN, NOP, STORE, OPS };
 
 /* The six words of an instruction, and the eight settings in the listing's order. */
 enum { F_OP, F_IMM, F_VB, F_VC, F_VD, F_MOD };
@@ -35,19 +36,20 @@ enum { O_ANSWER, O_STEPS, O_PLACE, O_CURSOR, O_LENGTH };
 /* checks.c */
 bool ind_settings_good(const uint32_t settings[8]);
 bool ind_slot_good(unsigned slot, uint32_t word);
+bool ind_op_known(uint32_t op);
 uint32_t ind_insn_fault(const uint32_t insn[6]);                                    /* 0, 7, 8 or 9 */
 uint32_t ind_list_fault(const uint32_t *list, size_t count, uint32_t *place);       /* the first faulty instruction decides */
 
 /* machine.c */
 float ind_float_of(uint32_t bits);
 bool ind_is_nan(uint32_t bits);
-uint32_t ind_run(const uint32_t settings[8], uint32_t *image, size_t image_len, const uint16_t *dst, size_t dst_len,
+uint32_t ind_run(const uint32_t settings[8], uint32_t *image, size_t image_len, uint16_t *dst, size_t dst_len,
                  const uint32_t *list, size_t list_len, uint32_t outcome[4]);
 uint32_t ind_lane(const uint32_t settings[8], uint32_t lane, const uint32_t insn[6], uint32_t own[24], const uint32_t head[24],
-                  uint16_t even, uint16_t odd);
+                  uint16_t cells[2]);                               /* the even one and the odd one */
 
 /* listing.c */
-extern const char *const ind_names[16];
+extern const char *const ind_names[OPS];
 uint32_t ind_read(const uint8_t *text, size_t text_len, uint32_t *list, size_t list_len, uint32_t settings[8], uint32_t outcome[5]);
 uint32_t ind_write(const uint32_t settings[8], const uint32_t *list, size_t list_len, uint8_t *text, size_t text_len, uint32_t outcome[5]);
 void ind_replay(FILE *in, FILE *out);
@@ -64,7 +66,7 @@ struct run_case {
 
 struct lane_case {
     uint32_t settings[8], lane, insn[6], own[SLOTS], head[SLOTS];
-    uint16_t even, odd;
+    uint16_t cells[2];
 };
 
 struct writing_case {

@@ -3,8 +3,8 @@
 
 #include <string.h>
 
-const char *const ind_names[16] = {
-    "", "LOAD", "LOADI", "LUT", "SWAP", "CONFIG", "IADD", "ABS", "AND", "OR", "XOR", "NOT", "LZ", "EXEXP", "EXMAN", "NOP",
+const char *const ind_names[OPS] = {
+    NULL, "LOAD", "LOADI", "LUT", "SWAP", "CONFIG", "IADD", "ABS", "AND", "OR", "XOR", "NOT", "LZ", "EXEXP", "EXMAN", "NOP", "STORE",
 };
 
 static const char *const header_names[9] = {
@@ -45,7 +45,7 @@ static bool take_number(struct reader *r, unsigned digits, uint32_t *number)
 /* LOAD begins LOADI, so a name counts only together with what follows it. */
 static bool take_name(struct reader *r, uint32_t *op)
 {
-    for (*op = 1; *op < 16; (*op)++) {
+    for (*op = 1; *op < OPS; (*op)++) {
         struct reader ahead = *r;
         if (take(&ahead, ind_names[*op]) && take(&ahead, " ")) {
             r->at += strlen(ind_names[*op]);
@@ -170,6 +170,7 @@ void ind_replay(FILE *in, FILE *out)
     uint32_t settings[8], outcome[5];
 
     memset(image, 0, sizeof image);
+    memset(dst, 0, sizeof dst);
     size_t len = fread(text, 1, sizeof text, in);
     if (ind_read(text, len, list, sizeof list / sizeof *list, settings, outcome) == 0)
         ind_run(settings, image, IMAGE_WORDS, dst, DST_CELLS, list, outcome[O_LENGTH], outcome);

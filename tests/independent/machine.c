@@ -14,8 +14,8 @@ struct machine {
     uint32_t word[LANES][SLOTS];
     const uint32_t *head[8];        /* row 0's lane of each column: the machine's own lane in a run, what was lent in a lane call */
     unsigned first, end;            /* the lanes an instruction goes over: all of them in a run, one in a lane call */
-    const uint16_t *dst;            /* all of Dst; NULL in a lane call, which is lent two cells */
-    uint16_t even, odd;
+    uint16_t *dst;                  /* all of Dst in a run, an even and an odd cell in a lane call */
+    uint32_t dst_mask;              /* the bits of a place that tell these cells apart */
     uint32_t edition, srcb, offset, cursor, stride[4];
 };
 
@@ -46,6 +46,26 @@ static bool config_bit(const struct machine *m, unsigned lane, uint32_t bit)
     return (m->word[lane][SLOT_CONFIG] & bit) != 0;
 }
 
+/* LOAD and STORE: where in Dst */
+
+static uint32_t next_addr(struct machine *m, const uint32_t *insn)
+{
+    uint32_t addr = (insn[F_IMM] + m->offset + m->cursor) % 1024;
+    m->cursor = (m->cursor + m->stride[insn[F_VB]]) % 1024;
+    return addr;
+}
+
+/* Row times 16 plus column. */
+static uint32_t place_of(const struct machine *m, unsigned lane, uint32_t addr)
+{
+    uint32_t row = (addr & ~3u) + lane / 8;
+    uint32_t column = (lane & 7) * 2;
+    if ((addr & 2) != 0 || (m->head[lane & 7][SLOT_CONFIG] & DEST_RD_COL_EXCHANGE) != 0) column += 1;
+    return row * 16 + column;
+}
+
+static uint16_t *cell_at(const struct machine *m, uint32_t place) { return &m->dst[place & m->dst_mask]; }
+
 /* LOAD: document 003 */
 
 static uint32_t read_fp16(uint16_t x, bool inf)
@@ -75,36 +95,52 @@ static uint32_t sign_mag_to_twos_comp(uint32_t x)
 
 static void sfpload(struct machine *m, const uint32_t *insn)
 {
-    const uint32_t vd = insn[F_VD], mod = insn[F_MOD] == 0 ? m->srcb : insn[F_MOD];
-    const uint32_t addr = (insn[F_IMM] + m->offset + m->cursor) % 1024;
-
-    if (vd < 8) {
-        EACH_LANE(m, lane) {
-            if (config_bit(m, lane, BLOCK_SFPU_RD_FROM_DEST) || !enabled(m, lane)) continue;
-            uint32_t row = (addr & ~3u) + lane / 8;
-            uint32_t column = (lane & 7) * 2;
-            if ((addr & 2) != 0 || (m->head[lane & 7][SLOT_CONFIG] & DEST_RD_COL_EXCHANGE) != 0) column += 1;
-            uint16_t cell = m->dst != NULL ? m->dst[row * 16 + column] : column % 2 != 0 ? m->odd : m->even;
-            uint32_t old = m->word[lane][vd], datum = 0;
-            switch (mod) {
-            case 1:  datum = read_fp16(cell, config_bit(m, lane, ENABLE_FP16A_INF)); break;
-            case 2:  datum = unshuffle_bf16(cell) << 16; break;
-            case 5:  datum = sign_mag(cell, 5, 0x7F); break;
-            case 6:
-            case 9:  datum = cell; break;
-            case 7:  datum = (uint32_t)cell << 16; break;
-            case 8:  datum = sign_mag(cell, 0, 0x7FFF); break;
-            case 11: datum = 0; break;
-            case 13: datum = sign_mag_to_twos_comp(sign_mag(cell, 5, 0x3FF)); break;
-            case 14: datum = (old & 0xFFFF0000) | cell; break;
-            case 15: datum = (uint32_t)cell << 16 | (old & 0xFFFF); break;
-            }
-            m->word[lane][vd] = datum;
-            if (vd < 4 && config_bit(m, lane, ENABLE_DEST_INDEX) && config_bit(m, lane, CAPTURE_DEFAULT_DEST_INDEX))
-                m->word[lane][vd + 4] = row * 16 + column;
+    const uint32_t vd = insn[F_VD], mod = insn[F_MOD] == 0 ? m->srcb : insn[F_MOD], addr = next_addr(m, insn);
+    EACH_LANE(m, lane) {
+        if (vd >= 8 || config_bit(m, lane, BLOCK_SFPU_RD_FROM_DEST) || !enabled(m, lane)) continue;
+        uint32_t place = place_of(m, lane, addr), old = m->word[lane][vd], datum = 0;
+        uint16_t cell = *cell_at(m, place);
+        switch (mod) {
+        case 1:  datum = read_fp16(cell, config_bit(m, lane, ENABLE_FP16A_INF)); break;
+        case 2:  datum = unshuffle_bf16(cell) << 16; break;
+        case 5:  datum = sign_mag(cell, 5, 0x7F); break;
+        case 6:
+        case 9:  datum = cell; break;
+        case 7:  datum = (uint32_t)cell << 16; break;
+        case 8:  datum = sign_mag(cell, 0, 0x7FFF); break;
+        case 11: datum = 0; break;
+        case 13: datum = sign_mag_to_twos_comp(sign_mag(cell, 5, 0x3FF)); break;
+        case 14: datum = (old & 0xFFFF0000) | cell; break;
+        case 15: datum = (uint32_t)cell << 16 | (old & 0xFFFF); break;
         }
+        m->word[lane][vd] = datum;
+        if (vd < 4 && config_bit(m, lane, ENABLE_DEST_INDEX) && config_bit(m, lane, CAPTURE_DEFAULT_DEST_INDEX))
+            m->word[lane][vd + 4] = place;
     }
-    m->cursor = (m->cursor + m->stride[insn[F_VB]]) % 1024;
+}
+
+/* STORE: M-101. Bit 1 does not block it, and every register can be read. */
+
+static uint32_t shuffle_bf16(uint32_t x)
+{
+    uint32_t sign = x & 0x8000, exp = x & 0x7F80, man = x & 0x007F;
+    return sign | man << 8 | exp >> 7;
+}
+
+static void sfpstore(struct machine *m, const uint32_t *insn)
+{
+    const uint32_t addr = next_addr(m, insn);
+    EACH_LANE(m, lane) {
+        if (!enabled(m, lane)) continue;
+        uint32_t datum = lreg(m, insn[F_VD], lane), high = datum >> 16, low = datum & 0xFFFF, cell = 0;
+        switch (insn[F_MOD]) {
+        case 2: cell = shuffle_bf16(high); break;
+        case 6:
+        case 9: cell = low; break;
+        case 7: cell = high; break;
+        }
+        *cell_at(m, place_of(m, lane, addr)) = (uint16_t)cell;
+    }
 }
 
 /* LUT: document 001, with document 01's two roundings and canonical NaN */
@@ -337,6 +373,7 @@ static void step(struct machine *m, const uint32_t *insn)
     case EXEXP:  sfpexexp(m, insn); break;
     case EXMAN:  sfpexman(m, insn); break;
     case NOP:    break;
+    case STORE:  sfpstore(m, insn); break;
     }
 }
 
@@ -364,7 +401,7 @@ static uint32_t refuse_run(const uint32_t settings[8], const uint32_t *image, si
     return ind_list_fault(list, list_len / 6, place);
 }
 
-uint32_t ind_run(const uint32_t settings[8], uint32_t *image, size_t image_len, const uint16_t *dst, size_t dst_len,
+uint32_t ind_run(const uint32_t settings[8], uint32_t *image, size_t image_len, uint16_t *dst, size_t dst_len,
                  const uint32_t *list, size_t list_len, uint32_t outcome[4])
 {
     uint32_t place, answer = refuse_run(settings, image, image_len, dst_len, list, list_len, &place);
@@ -377,6 +414,7 @@ uint32_t ind_run(const uint32_t settings[8], uint32_t *image, size_t image_len, 
     struct machine m;
     set_up(&m, settings);
     m.dst = dst;
+    m.dst_mask = DST_CELLS - 1;
     m.first = 0;
     m.end = LANES;
     for (unsigned c = 0; c < 8; c++) m.head[c] = m.word[c];
@@ -390,7 +428,7 @@ uint32_t ind_run(const uint32_t settings[8], uint32_t *image, size_t image_len, 
 }
 
 uint32_t ind_lane(const uint32_t settings[8], uint32_t lane, const uint32_t insn[6], uint32_t own[24], const uint32_t head[24],
-                  uint16_t even, uint16_t odd)
+                  uint16_t cells[2])
 {
     if (!ind_settings_good(settings)) return 3;
     for (unsigned s = 0; s < SLOTS; s++)
@@ -404,8 +442,8 @@ uint32_t ind_lane(const uint32_t settings[8], uint32_t lane, const uint32_t insn
     set_up(&m, settings);
     m.first = lane;
     m.end = lane + 1;
-    m.even = even;
-    m.odd = odd;
+    m.dst = cells;
+    m.dst_mask = 1;
     m.head[lane % 8] = head;        /* as given, even where the lane is itself in row 0 */
     memcpy(m.word[lane], own, sizeof m.word[lane]);
     step(&m, insn);

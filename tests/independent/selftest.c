@@ -18,7 +18,7 @@ static void check(bool good, const char *what, int line)
 /* One lane: the words are set up by hand, `act` does one instruction in them. */
 
 static uint32_t settings[8], own[SLOTS], head[SLOTS];
-static uint16_t even, odd;
+static uint16_t cells[2];
 static uint32_t lane;
 
 static void fresh(void)
@@ -27,14 +27,14 @@ static void fresh(void)
     memcpy(settings, plain, sizeof plain);
     memset(own, 0, sizeof own);
     memset(head, 0, sizeof head);
-    even = odd = 0;
+    memset(cells, 0, sizeof cells);
     lane = 0;
 }
 
 static uint32_t act(uint32_t op, uint32_t imm, uint32_t vb, uint32_t vc, uint32_t vd, uint32_t mod)
 {
     const uint32_t insn[6] = { op, imm, vb, vc, vd, mod };
-    return ind_lane(settings, lane, insn, own, head, even, odd);
+    return ind_lane(settings, lane, insn, own, head, cells);
 }
 
 /* "c ranks below d", seen from outside: with the minimum wanted in vd, the swap happens exactly then. */
@@ -73,7 +73,7 @@ static uint32_t lut(uint32_t r3, uint32_t coeffs, uint32_t mod)
 static uint32_t load(uint16_t cell, uint32_t mod, uint32_t config)
 {
     fresh();
-    even = cell, own[SLOT_CONFIG] = config, own[0] = 0x12345678;
+    cells[0] = cell, own[SLOT_CONFIG] = config, own[0] = 0x12345678;
     CHECK(act(LOAD, 0, 0, 0, 0, mod) == 0);
     return own[0];
 }
@@ -191,7 +191,7 @@ static void more_lane(void)
 {
     /* LOAD: the index, the column, blocking, halves, the whole magnitude of INT8_COMP. */
     fresh();
-    lane = 10, settings[2] = 1000, settings[3] = 1000, even = 0x1111, odd = 0x2222, own[SLOT_CONFIG] = 0xC;
+    lane = 10, settings[2] = 1000, settings[3] = 1000, cells[0] = 0x1111, cells[1] = 0x2222, own[SLOT_CONFIG] = 0xC;
     CHECK(act(LOAD, 50, 1, 0, 3, 6) == 0 && own[3] == 0x2222 && own[7] == ((2050 % 1024 & ~3u) + 1) * 16 + 5);
     CHECK(act(LOAD, 48, 1, 0, 3, 6) == 0 && own[3] == 0x1111 && own[7] == 1 * 16 + 4);
     head[SLOT_CONFIG] = 1 << 5;
@@ -245,11 +245,99 @@ static void more_lane(void)
     fresh();
     CHECK(act(LOAD, 0, 0, 0, 0, 12) == 9);
     lane = 32;
-    CHECK(act(LOAD, 0, 0, 0, 0, 12) == 8 && act(NOP, 0, 0, 0, 0, 0) == 8 && act(16, 0, 0, 0, 0, 0) == 7 && act(0, 0, 0, 0, 0, 0) == 7);
+    CHECK(act(LOAD, 0, 0, 0, 0, 12) == 8 && act(NOP, 0, 0, 0, 0, 0) == 8 && act(17, 0, 0, 0, 0, 0) == 7 && act(0, 0, 0, 0, 0, 0) == 7);
     head[SLOT_MISC] = 4096;
-    CHECK(act(16, 0, 0, 0, 0, 0) == 6);
+    CHECK(act(17, 0, 0, 0, 0, 0) == 6);
     settings[7] = 1024;
-    CHECK(act(16, 0, 0, 0, 0, 0) == 3);
+    CHECK(act(17, 0, 0, 0, 0, 0) == 3);
+}
+
+/* STORE (M-101) */
+
+/* The even cell that a register's word becomes; the odd one and the lane's words stay. */
+static uint16_t stored(uint32_t reg, uint32_t mod)
+{
+    uint32_t before[SLOTS];
+    memcpy(before, own, sizeof own);
+    cells[0] = 0x1111, cells[1] = 0x2222;
+    CHECK(act(STORE, 0, 0, 0, reg, mod) == 0 && cells[1] == 0x2222 && memcmp(own, before, sizeof own) == 0);
+    return cells[0];
+}
+
+static uint16_t store(uint32_t word, uint32_t mod)
+{
+    fresh();
+    own[0] = word;
+    return stored(0, mod);
+}
+
+/* Which of the two cells is stored to; 2 for neither. */
+static int column(uint32_t imm)
+{
+    cells[0] = cells[1] = 0x1111;
+    CHECK(act(STORE, imm, 0, 0, 10, 7) == 0);
+    return cells[0] == 0x3F80 ? 0 : cells[1] == 0x3F80 ? 1 : 2;
+}
+
+static bool refused_store(uint32_t imm, uint32_t vb, uint32_t vc, uint32_t vd, uint32_t mod)
+{
+    fresh();
+    cells[0] = 0x1111, cells[1] = 0x2222;
+    return act(STORE, imm, vb, vc, vd, mod) == 8 && cells[0] == 0x1111 && cells[1] == 0x2222;
+}
+
+static void stores(void)
+{
+    /* Mod 2: sign, then the seven digits, then the exponent. */
+    CHECK(store(0x3F800000, 2) == 0x007F && store(0xFFFFFFFF, 2) == 0xFFFF && store(0x80000001, 2) == 0x8000 && store(0x7FC00000, 2) == 0x40FF);
+    CHECK(store(0x00800000, 2) == 0x0001 && store(0x807FFFFF, 2) == 0xFF00 && store(0x0001FFFF, 2) == 0x0100 && store(0xBF2CC4C7, 2) == 0xAC7E);
+    CHECK(store(0x12345678, 7) == 0x1234 && store(0x12345678, 6) == 0x5678 && store(0x12345678, 9) == 0x5678);
+
+    /* STORE and then LOAD: the word with its low half 0, or its low half; and mod 2 of every cell gives it back. */
+    for (uint32_t c = 0; c < 65536; c++) {
+        CHECK(load(store(c << 16 | 0xABCD, 2), 2, 0) == c << 16 && load(store(c << 16 | 0xABCD, 7), 7, 0) == c << 16);
+        CHECK(load(store(0xABCD0000 | c, 6), 9, 0) == c && load(store(0xABCD0000 | c, 9), 6, 0) == c);
+        CHECK(store(load((uint16_t)c, 2, 0), 2) == c);
+    }
+
+    /* Every register can be read. */
+    fresh();
+    lane = 31;
+    for (uint32_t s = 0; s < SLOT_CONFIG; s++) own[s] = 0xA0B0C0D0 + s;
+    for (uint32_t r = 0; r < 8; r++) CHECK(stored(r, 7) == 0xA0B0 && stored(r, 6) == 0xC0D0 + r);
+    for (uint32_t r = 11; r < 15; r++) CHECK(stored(r, 7) == 0xA0B0 && stored(r, 9) == 0xC0D0 + SLOT_R11 + r - 11);
+    CHECK(stored(8, 7) == 0x3F56 && stored(8, 6) == 0x594B && stored(8, 2) == 0x567E);
+    CHECK(stored(9, 2) == 0 && stored(10, 7) == 0x3F80 && stored(10, 9) == 0 && stored(15, 6) == 62 && stored(15, 2) == 0);
+
+    /* In enabled lanes, blocked for LOAD or not; no index is captured. */
+    own[SLOT_CONFIG] = 0xE;
+    CHECK(stored(3, 7) == 0xA0B0);
+    own[SLOT_USE] = 1;
+    CHECK(stored(3, 7) == 0x1111);
+    own[SLOT_FLAG] = 1;
+    CHECK(stored(3, 7) == 0xA0B0);
+
+    /* The column: by the address or by row 0's lane, never by the lane's own bit 5. */
+    fresh();
+    lane = 10, settings[2] = 1000, settings[3] = 1000;
+    CHECK(column(48) == 0 && column(49) == 0 && column(50) == 1 && column(51) == 1 && column(1023) == 1);
+    own[SLOT_CONFIG] = 1 << 5;
+    CHECK(column(48) == 0);
+    head[SLOT_CONFIG] = 1 << 5;
+    CHECK(column(48) == 1 && column(50) == 1);
+    own[SLOT_CONFIG] = 0;
+    CHECK(column(48) == 1);
+    own[SLOT_USE] = 1;
+    CHECK(column(48) == 2);
+
+    /* Refused by 8, never by 9. */
+    for (uint32_t mod = 0; mod <= 16; mod++)
+        if (mod != 2 && mod != 6 && mod != 7 && mod != 9) CHECK(refused_store(0, 0, 0, 0, mod));
+    CHECK(refused_store(1024, 0, 0, 0, 2) && refused_store(0, 4, 0, 0, 2) && refused_store(0, 0, 1, 0, 2) && refused_store(0, 0, 0, 16, 2));
+    fresh();
+    CHECK(act(STORE, 1023, 3, 0, 15, 9) == 0);
+    lane = 32;
+    CHECK(act(STORE, 1023, 3, 0, 15, 9) == 8);
 }
 
 /* Runs */
@@ -287,7 +375,7 @@ static void runs(void)
     image[736] = 4095;
     CHECK(ind_run(settings, image, 768, dst, 16384, list, 0, outcome) == 0 && is(0, 0, 0, 5));
     CHECK(ind_run(settings, image, 768, dst, 16384, list, 6144, outcome) == 0 && is(0, 1024, 0, 5));
-    list[6 * 7 + F_MOD] = 1, list[6 * 8] = 16;
+    list[6 * 7 + F_MOD] = 1, list[6 * 8] = 17;
     CHECK(ind_run(settings, image, 768, dst, 16384, list, 6144, outcome) == 8 && is(8, 0, 7, 5));
     list[6 * 7] = 99;
     CHECK(ind_run(settings, image, 768, dst, 16384, list, 6144, outcome) == 7 && is(7, 0, 7, 5));
@@ -303,6 +391,61 @@ static void runs(void)
     dst[(1030 % 1024 / 4 * 4 + 3) * 16 + 14 + 1] = 0xBEEF;
     CHECK(ind_run(settings, image, 768, dst, 16384, list, 18, outcome) == 0 && is(0, 3, 0, 1060 - 1024));
     CHECK(image[2 * 32 + 31] == 0xBEEF);
+}
+
+static void put_insn(size_t i, uint32_t op, uint32_t imm, uint32_t vb, uint32_t vd, uint32_t mod)
+{
+    const uint32_t insn[6] = { op, imm, vb, 0, vd, mod };
+    memcpy(list + 6 * i, insn, sizeof insn);
+}
+
+static size_t cells_changed(const uint16_t *before)
+{
+    size_t n = 0;
+    for (size_t i = 0; i < DST_CELLS; i++) n += dst[i] != before[i];
+    return n;
+}
+
+static void runs_that_store(void)
+{
+    static uint32_t image_before[ROOM_IMAGE];
+    static uint16_t dst_before[ROOM_DST];
+    fresh();
+    memset(image, 0, sizeof image);
+    for (size_t i = 0; i < ROOM_DST; i++) dst[i] = dst_before[i] = 0x1111;
+
+    /* Twice the lane's number to the last rows' odd columns, and LOAD of the same address; the cursor wraps on the way. */
+    settings[S_OFFSET] = 1000, settings[S_CURSOR] = 1000, settings[S_STRIDE0 + 2] = 100;
+    image[LANES * SLOT_CONFIG + 9] = 1 << 1, image[LANES * SLOT_USE + 12] = 1;
+    put_insn(0, STORE, 46, 2, 15, 6);          /* 46 + 1000 + 1000 = 1022 + 1024 */
+    put_insn(1, LOAD, 970, 2, 5, 9);            /* 970 + 1000 + (1100 - 1024) too */
+    CHECK(ind_run(settings, image, 768, dst, 16384, list, 12, outcome) == 0 && is(0, 2, 0, 1200 - 1024));
+    for (uint32_t l = 0; l < LANES; l++) {
+        CHECK(dst[(1020 + l / 8) * 16 + l % 8 * 2 + 1] == (l == 12 ? 0x1111 : 2 * l));
+        CHECK(image[LANES * 5 + l] == (l == 9 || l == 12 ? 0 : 2 * l));         /* LOAD is blocked in lane 9 */
+    }
+    CHECK(cells_changed(dst_before) == 31);
+
+    /* Bit 5 in row 0 of column 3 takes the column's four lanes to the odd cells; in lane 10, of row 1, it does nothing. */
+    memcpy(dst, dst_before, sizeof dst);
+    memset(image, 0, sizeof image);
+    settings[S_OFFSET] = settings[S_CURSOR] = 0;
+    image[LANES * SLOT_CONFIG + 3] = image[LANES * SLOT_CONFIG + 10] = 1 << 5;
+    put_insn(0, STORE, 9, 0, 10, 2);
+    CHECK(ind_run(settings, image, 768, dst, 16384, list, 6, outcome) == 0 && is(0, 1, 0, 0));
+    for (uint32_t l = 0; l < LANES; l++) CHECK(dst[(8 + l / 8) * 16 + l % 8 * 2 + (l % 8 == 3)] == 0x007F);
+    CHECK(cells_changed(dst_before) == 32);
+
+    /* Refused later in the list: no cell and no word is another. */
+    memcpy(dst, dst_before, sizeof dst);
+    memcpy(image_before, image, sizeof image);
+    put_insn(1, LOADI, 5, 0, 1, 10);
+    put_insn(2, STORE, 9, 0, 10, 0);
+    CHECK(ind_run(settings, image, 768, dst, 16384, list, 18, outcome) == 8 && is(8, 0, 2, 0) && cells_changed(dst_before) == 0);
+    put_insn(2, 17, 0, 0, 0, 0);
+    CHECK(ind_run(settings, image, 768, dst, 16384, list, 18, outcome) == 7 && is(7, 0, 2, 0) && cells_changed(dst_before) == 0);
+    CHECK(ind_run(settings, image, 768, dst, 16385, list, 6, outcome) == 2 && is(2, 0, 0, 0) && cells_changed(dst_before) == 0);
+    CHECK(memcmp(image, image_before, sizeof image) == 0);
 }
 
 /* Listings */
@@ -386,6 +529,17 @@ static void listings(void)
     settings[S_CURSOR] = 70000;
     CHECK(ind_write(settings, list, 5, room, 0, outcome) == 3 && is(3, 0, 0, 70000));
 
+    /* STORE, from Dst to a register and back; each report begins from zeros. */
+    say(worked), change("CONFIG imm=00001 vb=00 vc=00 vd=12 mod=09", "STORE imm=00004 vb=00 vc=00 vd=10 mod=07");
+    CHECK(reads(0, 0, 0) && list[F_OP] == STORE && list[F_VD] == 10);
+    report("answer=0\nsteps=0001\nplace=0000\ncursor=0000\n");
+    change("STORE", "LOAD"), change("vd=10", "vd=01");
+    report("answer=0\nsteps=0001\nplace=0000\ncursor=0000\n");
+    change("LOAD", "STORE"), change("mod=07", "mod=03");
+    CHECK(read_into(0) == 8 && is(8, 0, 0, 0));
+    change("STORE", "STORES");
+    CHECK(reads(10, 10, 0));
+
     /* The first line not in form. */
     say("");
     CHECK(reads(10, 1, 0));
@@ -438,7 +592,9 @@ int ind_selftest(void)
     tempting();
     more_lut();
     more_lane();
+    stores();
     runs();
+    runs_that_store();
     listings();
     if (failures == 0) printf("selftest: all good\n");
     return failures == 0 ? 0 : 1;

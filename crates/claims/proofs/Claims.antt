@@ -9,6 +9,7 @@ use borrow.Author.Tests.{ne-eqb}
 use Rattle.lane.specs.declared.Settings.{Settings}
 use Rattle.lane.specs.Words.{pick, flagOf, build, laneOf, reg, upd, after, wordsAfter}
 use Rattle.lane.specs.Load.{fp16, bf16, twosComp}
+use Rattle.lane.specs.Store.{cells}
 use Rattle.lane.specs.Swap.{rank, ranksBelow}
 use Rattle.lane.specs.Lut.{byteWord}
 use Rattle.lane.specs.Config.{valueOf, combined, laneConfigAfter, highStore, configStore, configWith, config}
@@ -16,6 +17,8 @@ use Rattle.lane.specs.Compute.{extended, iaddWord, inverted, flagAfter, wordAnd
 use Rattle.lane.specs.Rule.{lanewise, storesOf}
 use Rattle.lane.specs.Refusals.{pass, settingsGood, fieldsGood, instructionAnswer, laneAnswer, laneStep}
 use Rattle.lane.proofs.Cases.{pick-false}
+use Rattle.lane.proofs.Places.{lies, never-meet}
+use Rattle.lane.proofs.Packed.{packed-unpacked, unpacked-packed}
 use Rattle.runner.specs.declared.Outcome.{Outcome}
 use Rattle.runner.specs.Checks.{runAnswer, listAnswer}
 use Rattle.runner.specs.Run.{Ran}
@@ -27,6 +30,7 @@ use Rattle.claims.proofs.Isolation.{isolation}
 use Rattle.claims.proofs.Instance as Instance
 use Rattle.claims.proofs.Runs as Runs
 use Rattle.claims.proofs.Cut.{cut-run}
+use Rattle.claims.proofs.Back.{gives-back}
 use Rattle.claims.proofs.Refusals as Refusals
 use Rattle.claims.proofs.Readings.{read-listing, held, held-listing}
 use Rattle.claims.proofs.Faults.{ten-names}
@@ -42,36 +46,44 @@ two-runs = Instance.two-runs
 -- ---- runs
 
 -- an outcome's answer is that of the checks
-answer-is : (s : Settings) (image dst list : List ℕ) (o : Outcome) (x : List ℕ) → Ran s image dst list o x → o .answer ≡ runAnswer s image dst list .answer
-answer-is s image dst list o x r = ap (λ (z : Outcome). z .answer) (r .outcome-is) ∙ Runs.answered s image dst list
+answer-is : (s : Settings) (image dst list : List ℕ) (o : Outcome) (x u : List ℕ) → Ran s image dst list o x u → o .answer ≡ runAnswer s image dst list .answer
+answer-is s image dst list o x u r = ap (λ (z : Outcome). z .answer) (r .outcome-is) ∙ Runs.answered s image dst list
 
 pub refusal-touches-nothing : Claims.RefusalTouchesNothing
 unfolding Claims.RefusalTouchesNothing
-refusal-touches-nothing s image dst list o x r h =
-    let d = Runs.refused s image dst list (λ z. h (answer-is s image dst list o x r ∙ z)) in
+refusal-touches-nothing s image dst list o x u r h =
+    let d = Runs.refused s image dst list (λ z. h (answer-is s image dst list o x u r ∙ z)) in
     let e = r .outcome-is ∙ d .0 in (
-      r .image-is ∙ d .1,
+      r .image-is ∙ d .1 .0,
       (
-        ap (λ (z : Outcome). z .answer) e,
-        (ap (λ (z : Outcome). z .place) e, (ap (λ (z : Outcome). z .steps) e, ap (λ (z : Outcome). z .cursor) e)),
+        r .dst-is ∙ d .1 .1,
+        (
+          ap (λ (z : Outcome). z .answer) e,
+          (ap (λ (z : Outcome). z .place) e, (ap (λ (z : Outcome). z .steps) e, ap (λ (z : Outcome). z .cursor) e)),
+        ),
       ),
     )
 
 pub refused-lane-touches-nothing : Claims.RefusedLaneTouchesNothing
 unfolding Claims.RefusedLaneTouchesNothing laneStep
 refused-lane-touches-nothing s L i own head even odd h =
-    pick-false (eqb (laneAnswer s L i (laneOf own) (laneOf head)) 0) _ own (ne-eqb (laneAnswer s L i (laneOf own) (laneOf head)) 0 h)
+    let other = ne-eqb (laneAnswer s L i (laneOf own) (laneOf head)) 0 h in (
+      pick-false (eqb (laneAnswer s L i (laneOf own) (laneOf head)) 0) _ own other,
+      pick-false (eqb (laneAnswer s L i (laneOf own) (laneOf head)) 0) _ (cells even odd) other,
+    )
 
 pub goes-through-the-list : Claims.GoesThroughTheList
 unfolding Claims.GoesThroughTheList
-goes-through-the-list s image dst list o x r h =
-    let d = Runs.done s image dst list (sym (answer-is s image dst list o x r) ∙ h) in
-    let e = r .outcome-is ∙ d .0 in
-    (ap (λ (z : Outcome). z .steps) e, (ap (λ (z : Outcome). z .place) e, (ap (λ (z : Outcome). z .cursor) e, r .image-is ∙ d .1)))
+goes-through-the-list s image dst list o x u r h =
+    let d = Runs.done s image dst list (sym (answer-is s image dst list o x u r) ∙ h) in
+    let e = r .outcome-is ∙ d .0 in (
+      ap (λ (z : Outcome). z .steps) e,
+      (ap (λ (z : Outcome). z .place) e, (ap (λ (z : Outcome). z .cursor) e, (r .image-is ∙ d .1 .0, r .dst-is ∙ d .1 .1))),
+    )
 
 pub well-formed-stays : Claims.WellFormedStays
 unfolding Claims.WellFormedStays
-well-formed-stays s image dst list o x r w =
+well-formed-stays s image dst list o x u r w =
     record {
       long = ap length (r .image-is) ∙ Runs.stays-long s image dst list (w .long);
       good = rw (r .image-is) (Runs.stays-good s image dst list (w .good));
@@ -79,8 +91,22 @@ well-formed-stays s image dst list o x r w =
 
 pub can-be-cut : Claims.CanBeCut
 unfolding Claims.CanBeCut
-can-be-cut s image dst a b o p q x middle end six ran h first rest =
-    cut-run s a b image dst six (sym (answer-is s image dst _ o x ran) ∙ h) o p q x middle end ran first rest
+can-be-cut s image dst a b o p q x u middle between end ended six ran h first rest =
+    cut-run s a b image dst six (sym (answer-is s image dst _ o x u ran) ∙ h) o p q x u middle between end ended ran first rest
+
+-- ---- STORE
+
+pub cells-apart : Claims.CellsApart
+unfolding Claims.CellsApart
+cells-apart a b L M odd other l m = (never-meet a b L M odd other l m, lies a L odd l .column)
+
+pub packing-inverts : Claims.PackingInverts
+unfolding Claims.PackingInverts
+packing-inverts = (packed-unpacked, unpacked-packed)
+
+pub stored-then-loaded : Claims.StoredThenLoaded
+unfolding Claims.StoredThenLoaded
+stored-then-loaded = gives-back
 
 -- ---- listings
 
@@ -119,7 +145,8 @@ ten-names-the-line = ten-names
 
 pub runs-coincide : Claims.RunsCoincide
 unfolding Claims.RunsCoincide
-runs-coincide s image dst list o p x y r q = (r .outcome-is ∙ sym (q .outcome-is), r .image-is ∙ sym (q .image-is))
+runs-coincide s image dst list o p x y u v r q =
+    (r .outcome-is ∙ sym (q .outcome-is), (r .image-is ∙ sym (q .image-is), r .dst-is ∙ sym (q .dst-is)))
 
 pub lanes-coincide : Claims.LanesCoincide
 unfolding Claims.LanesCoincide

@@ -5,28 +5,27 @@ use native.Mathlib.Omega.{arith}
 use mathlib.Core.Bool.{true}
 use mathlib.Core.List.{List, _++_}
 use lib.ListN.{length, length-append}
-use lib.Dec.{eqb}
 use Rattle.lane.specs.declared.Settings.{Settings}
 use Rattle.lane.specs.declared.Insn.{Insn}
-use Rattle.lane.specs.Load.{nextCursor}
+use Rattle.lane.specs.Load.{nextCursor, meetsDst}
 use Rattle.lane.specs.Refusals.{settingsGood, instructionAnswer}
 use Rattle.lane.proofs.Cases.{pick-lt}
 use Rattle.lane.proofs.Accepted.{settings-in-range, in-range-settings}
 use Rattle.runner.specs.declared.Found.{Found}
 use Rattle.runner.specs.declared.Outcome.{Outcome}
 use Rattle.runner.specs.Checks.{countOf, runAnswer}
-use Rattle.runner.specs.Run.{Machine, stepped, steps, finish, outcomeOf, runImage, Ran}
+use Rattle.runner.specs.Run.{Machine, stepped, steps, finish, Ran}
 use Rattle.runner.proofs.Steps.{begin}
-use Rattle.runner.proofs.Accepted.{Each, Accepted, accepted, run-accepted}
+use Rattle.runner.proofs.Accepted.{Accepted, accepted, run-accepted}
 use Rattle.claims.specs.Claims.{withCursor}
-use Rattle.claims.proofs.Kept.{good-steps, length-steps}
+use Rattle.claims.proofs.Kept.{good-steps, length-steps, length-dst-steps}
 use Rattle.claims.proofs.Runs.{done, insn-first, insn-second, cut}
 
 -- ---- the cursor stays in its range
 
 moves : (op cursor chosen : ℕ) → cursor < 1024 → nextCursor op cursor chosen < 1024
 unfolding nextCursor
-moves op cursor chosen h = pick-lt (eqb op 1) _ cursor 1024 (omega arith) h
+moves op cursor chosen h = pick-lt (meetsDst op) _ cursor 1024 (omega arith) h
 
 cursor-under : (s : Settings) (list : List ℕ) (n : ℕ) (m : Machine) → m .cursor < 1024 → steps s list n m .cursor < 1024
 unfolding steps stepped
@@ -87,16 +86,16 @@ module _ (s : Settings) (a b image dst : List ℕ) (six : length a % 6 ≡ 0) (h
   rest-settings = withCursor (finish s image dst a .cursor) s
 
   -- and the rest is accepted from there
-  pub rest-accepted : runAnswer rest-settings (finish s image dst a .image) dst b .answer ≡ 0
+  pub rest-accepted : runAnswer rest-settings (finish s image dst a .image) (finish s image dst a .dst) b .answer ≡ 0
   unfolding rest-settings
   rest-accepted =
       ap (λ (f : Found). f .answer)
-      (run-accepted (withCursor (finish s image dst a .cursor) s) (finish s image dst a .image) dst b
+      (run-accepted (withCursor (finish s image dst a .cursor) s) (finish s image dst a .image) (finish s image dst a .dst) b
       (record {
         passed =
             record {
               image-long = length-steps s a (countOf a) (begin s image dst) (all .passed .image-long);
-              dst-long = all .passed .dst-long;
+              dst-long = length-dst-steps s a (countOf a) (begin s image dst) (all .passed .dst-long);
               list-given =
                   record {
                     settings-good =
@@ -116,40 +115,52 @@ module _ (s : Settings) (a b image dst : List ℕ) (six : length a % 6 ≡ 0) (h
   added : countOf (a ++ b) ≡ countOf a + countOf b
   added = omega (arith, joined)
 
-  module _ (o p q : Outcome) (after middle end : List ℕ) (ran : Ran s image dst (a ++ b) o after) (ran-first : Ran s image dst a p middle) (ran-rest : Ran (withCursor (p .cursor) s) middle dst b q end) where
+  module _ (o p q : Outcome) (after stored middle between end ended : List ℕ) (ran : Ran s image dst (a ++ b) o after stored)
+      (ran-first : Ran s image dst a p middle between) (ran-rest : Ran (withCursor (p .cursor) s) middle between b q end ended) where
     -- what each of the three runs comes to
-    whole-is : (o ≡ record { answer = 0; steps = countOf (a ++ b); place = 0; cursor = finish s image dst (a ++ b) .cursor }) × (after ≡ finish s image dst (a ++ b) .image)
-    whole-is = let d = done s image dst (a ++ b) h in (ran .outcome-is ∙ d .0, ran .image-is ∙ d .1)
+    whole-is : (o ≡ record { answer = 0; steps = countOf (a ++ b); place = 0; cursor = finish s image dst (a ++ b) .cursor })
+        × ((after ≡ finish s image dst (a ++ b) .image) × (stored ≡ finish s image dst (a ++ b) .dst))
+    whole-is = let d = done s image dst (a ++ b) h in (ran .outcome-is ∙ d .0, (ran .image-is ∙ d .1 .0, ran .dst-is ∙ d .1 .1))
 
-    first-is : (p ≡ record { answer = 0; steps = countOf a; place = 0; cursor = finish s image dst a .cursor }) × (middle ≡ finish s image dst a .image)
-    first-is = let d = done s image dst a first-accepted in (ran-first .outcome-is ∙ d .0, ran-first .image-is ∙ d .1)
+    first-is : (p ≡ record { answer = 0; steps = countOf a; place = 0; cursor = finish s image dst a .cursor })
+        × ((middle ≡ finish s image dst a .image) × (between ≡ finish s image dst a .dst))
+    first-is = let d = done s image dst a first-accepted in (ran-first .outcome-is ∙ d .0, (ran-first .image-is ∙ d .1 .0, ran-first .dst-is ∙ d .1 .1))
 
-    rest-is : (q ≡ record { answer = 0; steps = countOf b; place = 0; cursor = finish rest-settings (finish s image dst a .image) dst b .cursor })
-        × (end ≡ finish rest-settings (finish s image dst a .image) dst b .image)
-    unfolding rest-settings
+    -- the machine that the rest leads to
+    rest : Machine
+    rest = finish rest-settings (finish s image dst a .image) (finish s image dst a .dst) b
+
+    rest-is : (q ≡ record { answer = 0; steps = countOf b; place = 0; cursor = rest .cursor }) × ((end ≡ rest .image) × (ended ≡ rest .dst))
+    unfolding rest-settings rest
     rest-is =
         let c : p .cursor ≡ finish s image dst a .cursor = ap (λ (x : Outcome). x .cursor) (first-is .0) in
-        let d = done rest-settings (finish s image dst a .image) dst b rest-accepted in (
-          ran-rest .outcome-is ∙ ap (λ (k : ℕ). outcomeOf (withCursor k s) middle dst b) c
-              ∙ ap (λ (x : List ℕ). outcomeOf rest-settings x dst b) (first-is .1) ∙ d .0,
-          ran-rest .image-is ∙ ap (λ (k : ℕ). runImage (withCursor k s) middle dst b) c
-              ∙ ap (λ (x : List ℕ). runImage rest-settings x dst b) (first-is .1) ∙ d .1,
+        let d = done rest-settings (finish s image dst a .image) (finish s image dst a .dst) b rest-accepted in (
+          ran-rest .outcome-is ∙ cc (c, first-is .1 .0, first-is .1 .1) ∙ d .0,
+          (ran-rest .image-is ∙ cc (c, first-is .1 .0, first-is .1 .1) ∙ d .1 .0, ran-rest .dst-is ∙ cc (c, first-is .1 .0, first-is .1 .1) ∙ d .1 .1),
         )
 
-    pub cut-run : (p .answer ≡ 0) × ((q .answer ≡ 0) × ((end ≡ after) × ((q .cursor ≡ o .cursor) × (o .steps ≡ p .steps + q .steps))))
-    unfolding rest-settings
+    -- which is the one that the whole list leads to
+    same-end : finish s image dst (a ++ b) ≡ rest
+    unfolding rest-settings rest
+    same-end = cut s a b image dst six
+
+    pub cut-run : (p .answer ≡ 0)
+        × ((q .answer ≡ 0) × ((end ≡ after) × ((ended ≡ stored) × ((q .cursor ≡ o .cursor) × (o .steps ≡ p .steps + q .steps)))))
     cut-run = (
       ap (λ (x : Outcome). x .answer) (first-is .0),
       (
         ap (λ (x : Outcome). x .answer) (rest-is .0),
         (
-          rest-is .1 ∙ sym (ap (λ (m : Machine). m .image) (cut s a b image dst six)) ∙ sym (whole-is .1),
+          rest-is .1 .0 ∙ sym (whole-is .1 .0 ∙ ap (λ (m : Machine). m .image) same-end),
           (
-            ap (λ (x : Outcome). x .cursor) (rest-is .0) ∙ sym (ap (λ (m : Machine). m .cursor) (cut s a b image dst six))
-                ∙ sym (ap (λ (x : Outcome). x .cursor) (whole-is .0)),
-            ap (λ (x : Outcome). x .steps) (whole-is .0) ∙ added
-                ∙ ap (λ (n : ℕ). n + countOf b) (sym (ap (λ (x : Outcome). x .steps) (first-is .0)))
-                ∙ ap (λ (n : ℕ). p .steps + n) (sym (ap (λ (x : Outcome). x .steps) (rest-is .0))),
+            rest-is .1 .1 ∙ sym (whole-is .1 .1 ∙ ap (λ (m : Machine). m .dst) same-end),
+            (
+              ap (λ (x : Outcome). x .cursor) (rest-is .0)
+                  ∙ sym (ap (λ (x : Outcome). x .cursor) (whole-is .0) ∙ ap (λ (m : Machine). m .cursor) same-end),
+              ap (λ (x : Outcome). x .steps) (whole-is .0) ∙ added
+                  ∙ ap (λ (n : ℕ). n + countOf b) (sym (ap (λ (x : Outcome). x .steps) (first-is .0)))
+                  ∙ ap (λ (n : ℕ). p .steps + n) (sym (ap (λ (x : Outcome). x .steps) (rest-is .0))),
+            ),
           ),
         ),
       ),

@@ -1,25 +1,28 @@
 -- Demand 3. No operation is looked at: a lane's rule is handed its own words, row 0's words of its column and its two cells, so equal ones give
--- equal lanes. Assumes nothing.
+-- equal lanes and equal cells. Assumes nothing.
 use mathlib.Core.Path.{_≡_, refl, sym, ap, _∙_}
-use Prim.Native.Nat.{ℕ, zero, suc, _+_, _*_, _/_, _%_, _<_}
+use Prim.Native.Nat.{ℕ, zero, suc, _%_, _<_}
 use native.Mathlib.Omega.{arith}
 use mathlib.Core.Bool.{Bool, true, false}
 use mathlib.Core.List.{List}
-use lib.ListN.{length}
+use lib.ListN.{length, getD}
 use lib.Dec.{eqb}
 use Rattle.lane.specs.declared.Settings.{Settings}
 use Rattle.lane.specs.declared.Insn.{Insn}
-use Rattle.lane.specs.Words.{pick, Lane}
-use Rattle.lane.specs.Load.{address}
-use Rattle.lane.proofs.Depends.{same-lane}
+use Rattle.lane.specs.declared.Cells.{Cells}
+use Rattle.lane.specs.Words.{pick, bit, Lane}
+use Rattle.lane.specs.Load.{address, placeOf, isMet, ownerOf}
+use Rattle.lane.proofs.Depends.{same-lane, same-cells}
+use Rattle.lane.proofs.Places.{lies}
 use Rattle.runner.specs.declared.Found.{Found}
 use Rattle.runner.specs.declared.Outcome.{Outcome}
 use Rattle.runner.specs.Image.{laneIn}
 use Rattle.runner.specs.Checks.{insnAt, countOf, runAnswer}
-use Rattle.runner.specs.Run.{Machine, evenCell, oddCell, laneAfter, imageAt, imageAfter, cursorAfter, stepped, steps, finish, outcomeOf, runImage}
+use Rattle.runner.specs.Run.{Machine, evenCell, oddCell, laneAfter, imageAt, imageAfter, cellsAfter, dstAt, dstAfter, cursorAfter, stepped, steps, finish, outcomeOf, runImage, runDst}
 use Rattle.runner.proofs.Lanes.{lane-of-lanes, equal-lanes}
 use Rattle.runner.proofs.Accepted.{run-listed}
-use Rattle.runner.proofs.Steps.{begin, steps-dst}
+use Rattle.runner.proofs.Dsts.{ownCell, cell-at}
+use Rattle.runner.proofs.Steps.{begin}
 use Rattle.claims.proofs.Kept.{length-steps}
 use Rattle.claims.specs.Claims.{WellFormedImage, SameColumn, SameCells, Isolated}
 
@@ -33,19 +36,22 @@ module _ (c : ℕ) (a b d e : List ℕ) (la : length a ≡ 768) (lb : length b �
   column-head : (L : ℕ) → L < 32 → L % 8 ≡ c → laneIn a (L % 8) ≡ laneIn b (L % 8)
   column-head L l q = column-lane (L % 8) (omega arith) (omega arith)
 
-  even-cell : (x L : ℕ) → x < 1024 → L < 32 → L % 8 ≡ c → evenCell d x L ≡ evenCell e x L
+  same-cell : (x L : ℕ) (odd : Bool) → x < 1024 → L < 32 → L % 8 ≡ c → getD d (placeOf x L odd) 0 ≡ getD e (placeOf x L odd) 0
   unfolding SameCells
-  even-cell x L r l q = k ((x / 4 * 4 + L / 8) * 16 + 2 * (L % 8)) (omega arith) (omega arith)
-
-  odd-cell : (x L : ℕ) → x < 1024 → L < 32 → L % 8 ≡ c → oddCell d x L ≡ oddCell e x L
-  unfolding SameCells
-  odd-cell x L r l q = k ((x / 4 * 4 + L / 8) * 16 + (2 * (L % 8) + 1)) (omega arith) (omega arith)
+  same-cell x L odd r l q = let p = lies x L odd l in k (placeOf x L odd) (p .within r) (p .column ∙ q)
 
   lane-isolated : (s : Settings) (i : Insn) (x L : ℕ) → x < 1024 → L < 32 → L % 8 ≡ c → laneAfter s i x a d L ≡ laneAfter s i x b e L
   unfolding laneAfter
   lane-isolated s i x L r l q =
       same-lane (i .op) s x i L (laneIn a (L % 8)) (laneIn b (L % 8)) (evenCell d x L) (evenCell e x L) (oddCell d x L) (oddCell e x L)
-      (laneIn a L) (laneIn b L) (column-head L l q) (even-cell x L r l q) (odd-cell x L r l q) (column-lane L l q)
+      (laneIn a L) (laneIn b L) (column-head L l q) (same-cell x L false r l q) (same-cell x L true r l q) (column-lane L l q)
+
+  cells-isolated : (i : Insn) (x L : ℕ) → x < 1024 → L < 32 → L % 8 ≡ c → cellsAfter i x a d L ≡ cellsAfter i x b e L
+  unfolding cellsAfter
+  cells-isolated i x L r l q =
+      same-cells (i .op) x i L (bit (laneIn a (L % 8) 12) 5) (bit (laneIn b (L % 8) 12) 5) (evenCell d x L) (evenCell e x L) (oddCell d x L) (oddCell e x L)
+      (laneIn a L) (laneIn b L) (ap (λ (f : Lane). bit (f 12) 5) (column-head L l q)) (same-cell x L false r l q) (same-cell x L true r l q)
+      (column-lane L l q)
 
   step-isolated : (s : Settings) (i : Insn) (cursor : ℕ) → SameColumn c (imageAfter s i cursor a d) (imageAfter s i cursor b e)
   unfolding SameColumn imageAfter imageAt
@@ -53,6 +59,16 @@ module _ (c : ℕ) (a b d e : List ℕ) (la : length a ≡ 768) (lb : length b �
       lane-of-lanes (laneAfter s i (address (i .imm) (s .offset) cursor) a d) L t l m
       ∙ ap (λ (f : Lane). f t) (lane-isolated s i (address (i .imm) (s .offset) cursor) L (omega arith) l q)
       ∙ sym (lane-of-lanes (laneAfter s i (address (i .imm) (s .offset) cursor) b e) L t l m)
+
+  dst-isolated : (s : Settings) (i : Insn) (cursor : ℕ) → SameCells c (dstAfter s i cursor a d) (dstAfter s i cursor b e)
+  unfolding SameCells dstAfter dstAt
+  dst-isolated s i cursor p l q =
+      let x = address (i .imm) (s .offset) cursor in
+      cell-at x d (cellsAfter i x a d) p l
+      ∙ ap (λ (n : ℕ). pick (isMet x p) (ownCell (cellsAfter i x a d) p) n) (k p l q)
+      ∙ ap (λ (w : Cells). pick (isMet x p) (pick (eqb (p % 2) 1) (w .odd) (w .even)) (getD e p 0))
+      (cells-isolated i x (ownerOf p) (omega arith) (omega arith) (omega arith))
+      ∙ sym (cell-at x e (cellsAfter i x b e) p l)
 
 -- ---- any number of instructions
 
@@ -63,11 +79,12 @@ cursor-same s list a b d e zero = refl
 cursor-same s list a b d e (suc n) = ap (λ (x : ℕ). cursorAfter s (insnAt list n) x) (cursor-same s list a b d e n)
 
 steps-isolated : (c : ℕ) (s : Settings) (list a b d e : List ℕ) → length a ≡ 768 → length b ≡ 768 → SameColumn c a b → SameCells c d e
-    → (n : ℕ) → SameColumn c (steps s list n (begin s a d) .image) (steps s list n (begin s b e) .image)
+    → (n : ℕ)
+    → SameColumn c (steps s list n (begin s a d) .image) (steps s list n (begin s b e) .image)
+    × SameCells c (steps s list n (begin s a d) .dst) (steps s list n (begin s b e) .dst)
 unfolding steps stepped
-steps-isolated c s list a b d e la lb h k zero = h
-steps-isolated c s list a b d e la lb h k (suc n) =
-    moved (steps-isolated c s list a b d e la lb h k n)
+steps-isolated c s list a b d e la lb h k zero = (h, k)
+steps-isolated c s list a b d e la lb h k (suc n) = moved (steps-isolated c s list a b d e la lb h k n)
   where
     A : Machine
     A = steps s list n (begin s a d)
@@ -75,11 +92,20 @@ steps-isolated c s list a b d e la lb h k (suc n) =
     B : Machine
     B = steps s list n (begin s b e)
 
-    moved : SameColumn c (A .image) (B .image)
+    longA : length (A .image) ≡ 768
+    longA = length-steps s list n (begin s a d) la
+
+    longB : length (B .image) ≡ 768
+    longB = length-steps s list n (begin s b e) lb
+
+    moved : SameColumn c (A .image) (B .image) × SameCells c (A .dst) (B .dst)
         → SameColumn c (imageAfter s (insnAt list n) (A .cursor) (A .image) (A .dst)) (imageAfter s (insnAt list n) (B .cursor) (B .image) (B .dst))
+        × SameCells c (dstAfter s (insnAt list n) (A .cursor) (A .image) (A .dst)) (dstAfter s (insnAt list n) (B .cursor) (B .image) (B .dst))
     moved j =
-        rw (steps-dst s list n (begin s a d), steps-dst s list n (begin s b e), cursor-same s list a b d e n)
-        (step-isolated c (A .image) (B .image) d e (length-steps s list n (begin s a d) la) (length-steps s list n (begin s b e) lb) j k s (insnAt list n) (B .cursor))
+        rw (cursor-same s list a b d e n) (
+          step-isolated c (A .image) (B .image) (A .dst) (B .dst) longA longB (j .0) (j .1) s (insnAt list n) (B .cursor),
+          dst-isolated c (A .image) (B .image) (A .dst) (B .dst) longA longB (j .0) (j .1) s (insnAt list n) (B .cursor),
+        )
 
 -- ---- the checks see nothing of the images' words
 
@@ -103,22 +129,38 @@ unfolding pick
 picked c true x y a b h k = h
 picked c false x y a b h k = k
 
-images-same : (c : ℕ) (s : Settings) (list a b d e : List ℕ) → WellFormedImage a → WellFormedImage b → length d ≡ 16384 → length e ≡ 16384
-    → SameColumn c a b → SameCells c d e → SameColumn c (runImage s a d list) (runImage s b e list)
-unfolding runImage
-images-same c s list a b d e wa wb ld le h k =
-    rw (answers-same s list a b d e wa wb ld le)
-    (picked c (eqb (runAnswer s b e list .answer) 0) (finish s a d list .image) (finish s b e list .image) a b
-    (steps-isolated c s list a b d e (wa .long) (wb .long) h k (countOf list)) h)
+picked-cells : (c : ℕ) (t : Bool) (x y a b : List ℕ) → SameCells c x y → SameCells c a b → SameCells c (pick t x a) (pick t y b)
+unfolding pick
+picked-cells c true x y a b h k = h
+picked-cells c false x y a b h k = k
 
--- images that are equal to others agree where those do
+left-same : (c : ℕ) (s : Settings) (list a b d e : List ℕ) → WellFormedImage a → WellFormedImage b → length d ≡ 16384 → length e ≡ 16384
+    → SameColumn c a b → SameCells c d e
+    → SameColumn c (runImage s a d list) (runImage s b e list) × SameCells c (runDst s a d list) (runDst s b e list)
+unfolding runImage runDst
+left-same c s list a b d e wa wb ld le h k =
+    let j = steps-isolated c s list a b d e (wa .long) (wb .long) h k (countOf list) in
+    rw (answers-same s list a b d e wa wb ld le) (
+      picked c (eqb (runAnswer s b e list .answer) 0) (finish s a d list .image) (finish s b e list .image) a b (j .0) h,
+      picked-cells c (eqb (runAnswer s b e list .answer) 0) (finish s a d list .dst) (finish s b e list .dst) d e (j .1) k,
+    )
+
+-- images and Dsts that are equal to others agree where those do
 same-through : (c : ℕ) (x y a b : List ℕ) → x ≡ a → y ≡ b → SameColumn c a b → SameColumn c x y
 unfolding SameColumn
 same-through c x y a b p q h L s l r m = ap (λ (z : List ℕ). laneIn z L s) p ∙ h L s l r m ∙ sym (ap (λ (z : List ℕ). laneIn z L s) q)
 
+cells-through : (c : ℕ) (x y a b : List ℕ) → x ≡ a → y ≡ b → SameCells c a b → SameCells c x y
+unfolding SameCells
+cells-through c x y a b p q h n l r = ap (λ (z : List ℕ). getD z n 0) p ∙ h n l r ∙ sym (ap (λ (z : List ℕ). getD z n 0) q)
+
 pub isolation : Isolated
 unfolding Isolated
-isolation c s list a b d e o p x y wa wb ld le h k r q = (
-  r .outcome-is ∙ outcomes-same s list a b d e wa wb ld le ∙ sym (q .outcome-is),
-  same-through c x y (runImage s a d list) (runImage s b e list) (r .image-is) (q .image-is) (images-same c s list a b d e wa wb ld le h k),
-)
+isolation c s list a b d e o p x y u v wa wb ld le h k r q =
+    let j = left-same c s list a b d e wa wb ld le h k in (
+      r .outcome-is ∙ outcomes-same s list a b d e wa wb ld le ∙ sym (q .outcome-is),
+      (
+        same-through c x y (runImage s a d list) (runImage s b e list) (r .image-is) (q .image-is) (j .0),
+        cells-through c u v (runDst s a d list) (runDst s b e list) (r .dst-is) (q .dst-is) (j .1),
+      ),
+    )

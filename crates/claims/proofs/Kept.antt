@@ -1,4 +1,4 @@
--- What the steps through a list keep: a well formed image stays well formed, and keeps its length. Assumes nothing.
+-- What the steps through a list keep: a well formed image stays well formed, and image and Dst keep their lengths. Assumes nothing.
 use mathlib.Core.Path.{_≡_, refl, ap, _∙_}
 use Prim.Native.Nat.{ℕ, zero, suc, _%_, _<_}
 use native.Mathlib.Nat.{le-step, le-refl}
@@ -17,7 +17,7 @@ use Rattle.runner.specs.Image.{laneIn, ofLanes, lanesGood, imageGood}
 use Rattle.runner.specs.Checks.{insnAt}
 use Rattle.runner.specs.Run.{Machine, laneAfter, imageAt, imageAfter, stepped, steps}
 use Rattle.runner.proofs.Lanes.{lane-of-lanes}
-use Rattle.runner.proofs.Steps.{length-after}
+use Rattle.runner.proofs.Steps.{length-after, length-dst-after}
 
 both : (a b : Bool) → a ≡ true → b ≡ true → (a && b) ≡ true
 both a b p q = ap (λ (x : Bool). x && b) p ∙ q
@@ -68,9 +68,15 @@ good-steps s list zero m h = h
 good-steps s list (suc n) m h =
     good-after s (insnAt list n) (steps s list n m .cursor) (steps s list n m .image) (steps s list n m .dst) (good-steps s list n m h)
 
--- and the image keeps its length
+-- and image and Dst keep their lengths
 pub length-steps : (s : Settings) (list : List ℕ) (n : ℕ) (m : Machine) → length (m .image) ≡ 768 → length (steps s list n m .image) ≡ 768
 unfolding steps stepped
 length-steps s list zero m h = h
 length-steps s list (suc n) m h =
     length-after s (insnAt list n) (steps s list n m .cursor) (steps s list n m .image) (steps s list n m .dst)
+
+pub length-dst-steps : (s : Settings) (list : List ℕ) (n : ℕ) (m : Machine) → length (m .dst) ≡ 16384 → length (steps s list n m .dst) ≡ 16384
+unfolding steps stepped
+length-dst-steps s list zero m h = h
+length-dst-steps s list (suc n) m h =
+    length-dst-after s (insnAt list n) (steps s list n m .cursor) (steps s list n m .image) (steps s list n m .dst)

@@ -3,6 +3,7 @@ pub mod WellFormed
 pub mod Kept
 pub mod Runs
 pub mod Cut
+pub mod Back
 pub mod Isolation
 pub mod Instance
 pub mod Refusals

@@ -71,16 +71,16 @@ plain-of (b ∷ t) e = go (eqb b LF) refl e (plain-of t)
         no z = let k : _≡_ {A = ℕ} 0 1 = cc in omega arith
     go false q d r = (eqb-false b LF q, r d)
 
-names-plain : every 16 (λ op. plainly (nameOf op)) ≡ true
+names-plain : every 17 (λ op. plainly (nameOf op)) ≡ true
 unfolding every plainly names nameOf bytes spell
 names-plain = refl
 
 plain-name : (op : ℕ) → Plain (nameOf op)
 unfolding Plain
-plain-name op = go (decLt op 16)
+plain-name op = go (decLt op 17)
   where
-    go : Dec (op < 16) → Plain (nameOf op)
-    go (yes h) = plain-of (nameOf op) (every-at 16 _ op h names-plain)
+    go : Dec (op < 17) → Plain (nameOf op)
+    go (yes h) = plain-of (nameOf op) (every-at 17 _ op h names-plain)
     go (no h) = rw (no-name op (omega arith)) tt
 
 lines-plain : (bs x : List ℕ) (k : ℕ) → Plain bs → firstLines (suc k) (bs ++ x) ≡ bs ++ firstLines (suc k) x

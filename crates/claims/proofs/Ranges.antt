@@ -63,7 +63,7 @@ fits-dec : (w n : ℕ) (f : Form) (ns : List ℕ) → n < 10 ^ w → Fits f ns �
 unfolding Fits Fit takes
 fits-dec w n f ns l h = (omega arith, (l, h))
 
-fits-name : (n : ℕ) (f : Form) (ns : List ℕ) → 0 < n → n ≤ 15 → Fits f ns → Fits (name ∷ f) (n ∷ ns)
+fits-name : (n : ℕ) (f : Form) (ns : List ℕ) → 0 < n → n ≤ 16 → Fits f ns → Fits (name ∷ f) (n ∷ ns)
 unfolding Fits Fit takes
 fits-name n f ns z l h = (omega arith, ((z, l), h))
 

@@ -18,8 +18,8 @@ use Rattle.lane.proofs.Cases.{pick-true, pick-false}
 use Rattle.runner.specs.declared.Outcome.{Outcome}
 use Rattle.runner.specs.Image.{imageGood}
 use Rattle.runner.specs.Checks.{insnAt, countOf, runAnswer}
-use Rattle.runner.specs.Run.{Machine, laneAfter, imageAt, imageAfter, stepped, steps, finish, outcomeOf, runImage}
-use Rattle.runner.proofs.Steps.{begin, steps-dst}
+use Rattle.runner.specs.Run.{Machine, laneAfter, imageAt, imageAfter, dstAfter, stepped, steps, finish, outcomeOf, runImage, runDst}
+use Rattle.runner.proofs.Steps.{begin}
 use Rattle.claims.specs.Claims.{withCursor}
 use Rattle.claims.proofs.Kept.{good-steps, length-steps}
 
@@ -27,21 +27,27 @@ module _ (s : Settings) (image dst list : List ℕ) where
   -- refused
   pub refused : (runAnswer s image dst list .answer ≡ 0 → ⊥)
       → (outcomeOf s image dst list ≡ record { answer = runAnswer s image dst list .answer; steps = 0; place = runAnswer s image dst list .place; cursor = s .cursor })
-      × (runImage s image dst list ≡ image)
-  unfolding outcomeOf runImage
+      × ((runImage s image dst list ≡ image) × (runDst s image dst list ≡ dst))
+  unfolding outcomeOf runImage runDst
   refused h = (
     pick-false (eqb (runAnswer s image dst list .answer) 0) _ _ (ne-eqb (runAnswer s image dst list .answer) 0 h),
-    pick-false (eqb (runAnswer s image dst list .answer) 0) (finish s image dst list .image) image (ne-eqb (runAnswer s image dst list .answer) 0 h),
+    (
+      pick-false (eqb (runAnswer s image dst list .answer) 0) (finish s image dst list .image) image (ne-eqb (runAnswer s image dst list .answer) 0 h),
+      pick-false (eqb (runAnswer s image dst list .answer) 0) (finish s image dst list .dst) dst (ne-eqb (runAnswer s image dst list .answer) 0 h),
+    ),
   )
 
   -- done
   pub done : runAnswer s image dst list .answer ≡ 0
       → (outcomeOf s image dst list ≡ record { answer = 0; steps = countOf list; place = 0; cursor = finish s image dst list .cursor })
-      × (runImage s image dst list ≡ finish s image dst list .image)
-  unfolding outcomeOf runImage
+      × ((runImage s image dst list ≡ finish s image dst list .image) × (runDst s image dst list ≡ finish s image dst list .dst))
+  unfolding outcomeOf runImage runDst
   done h = (
     pick-true (eqb (runAnswer s image dst list .answer) 0) _ _ (eq-eqb (runAnswer s image dst list .answer) 0 h),
-    pick-true (eqb (runAnswer s image dst list .answer) 0) (finish s image dst list .image) image (eq-eqb (runAnswer s image dst list .answer) 0 h),
+    (
+      pick-true (eqb (runAnswer s image dst list .answer) 0) (finish s image dst list .image) image (eq-eqb (runAnswer s image dst list .answer) 0 h),
+      pick-true (eqb (runAnswer s image dst list .answer) 0) (finish s image dst list .dst) dst (eq-eqb (runAnswer s image dst list .answer) 0 h),
+    ),
   )
 
   -- an outcome's answer is the checks'
@@ -76,7 +82,7 @@ module _ (s : Settings) (image dst list : List ℕ) where
 
 -- a step reads the machine's cursor and not the settings'
 step-cursor : (k : ℕ) (s : Settings) (i : Insn) (m : Machine) → stepped (withCursor k s) i m ≡ stepped s i m
-unfolding stepped imageAfter imageAt laneAfter storesOf stride withCursor
+unfolding stepped imageAfter imageAt laneAfter storesOf dstAfter stride withCursor
 step-cursor k s i m = refl
 
 steps-cursor : (k : ℕ) (s : Settings) (list : List ℕ) (n : ℕ) (m : Machine) → steps (withCursor k s) list n m ≡ steps s list n m
@@ -131,16 +137,14 @@ steps-second s a b (suc n) m h =
     ∙ ap (λ (x : Machine). stepped s (insnAt (a ++ b) (length a / 6 + n)) x) (steps-second s a b n m h)
     ∙ ap (λ (x : Insn). stepped s x (steps s b n (steps s a (length a / 6) m))) (insn-second a b n h)
 
--- the machine that a list leads to is the one that its first part leads to, taken on by the rest from the image and the cursor reached
+-- the machine that a list leads to is the one that its first part leads to, taken on by the rest from the image, the Dst and the cursor reached
 pub cut : (s : Settings) (a b image dst : List ℕ) → length a % 6 ≡ 0
-    → finish s image dst (a ++ b) ≡ finish (withCursor (finish s image dst a .cursor) s) (finish s image dst a .image) dst b
+    → finish s image dst (a ++ b) ≡ finish (withCursor (finish s image dst a .cursor) s) (finish s image dst a .image) (finish s image dst a .dst) b
 unfolding withCursor
 cut s a b image dst h =
     ap (λ (k : ℕ). steps s (a ++ b) k (begin s image dst)) (joined a b h)
     ∙ steps-second s a b (countOf b) (begin s image dst) h
-    ∙ ap (λ (d : List ℕ). steps s b (countOf b) (record { image = finish s image dst a .image; dst = d; cursor = finish s image dst a .cursor }))
-    (steps-dst s a (countOf a) (begin s image dst))
-    ∙ sym (steps-cursor (finish s image dst a .cursor) s b (countOf b) (begin (withCursor (finish s image dst a .cursor) s) (finish s image dst a .image) dst))
+    ∙ sym (steps-cursor (finish s image dst a .cursor) s b (countOf b) (finish s image dst a))
   where
     joined : (a b : List ℕ) → length a % 6 ≡ 0 → length (a ++ b) / 6 ≡ length a / 6 + length b / 6
     joined a b h = rw length-append (omega arith)

@@ -4,7 +4,7 @@ use Prim.Native.Nat.{ℕ, _+_, _-_, _%_, _^_, _<_, _≤_}
 use native.Mathlib.Nat.{lt-of-lt-of-le}
 use native.Mathlib.Decide.{ℕ-discrete}
 use native.Mathlib.Omega.{arith}
-use mathlib.Core.Bool.{Bool, true, false, _&&_}
+use mathlib.Core.Bool.{Bool, true, false, _&&_, _||_}
 use mathlib.Core.List.{[], _∷_, _++_}
 use lib.Bits.{and-lt, or-lt, xor-lt}
 use lib.Ieee.{Float}
@@ -250,7 +250,7 @@ fit-lanewise op srcb a i L exchanged even odd own h =
     fit-test (eqb op 12) _ _ (λ e. fit-lz i L own h)
     (λ e.
     fit-test (eqb op 13) _ _ (λ e. fit-exexp i L own h)
-    (λ e. fit-test (eqb op 15) [] _ (λ e. tt) (λ e. fit-valued op i L own))))))))
+    (λ e. fit-test (eqb op 15 || eqb op 16) [] _ (λ e. tt) (λ e. fit-valued op i L own))))))))
 
 pub fit-stores : (op : ℕ) (s : Settings) (a : ℕ) (i : Insn) (L : ℕ) (head : Lane) (even odd : ℕ) (own : Lane) → Sound own
     → AllFit (storesOf op s a i L head even odd own)

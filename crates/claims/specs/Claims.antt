@@ -1,21 +1,24 @@
 -- What a registrar may rely on. Each claim stands under one sentence, with its premises; proofs/Claims.antt proves it by its name. They speak of runs
 -- by demand 2's rules (`Ran`, which is what `run` promises: crate runner, specs/Run), of readings and writings (crate listing, specs/Listing), and of
 -- one lane's instruction (crate lane, specs/Refusals).
-use Prim.Native.Nat.{ℕ, zero, suc, _+_, _-_, _/_, _%_, _<_, _≤_}
+use Prim.Native.Nat.{ℕ, zero, suc, _+_, _-_, _*_, _/_, _%_, _^_, _<_, _≤_}
 use mathlib.Core.Path.{_≡_}
-use mathlib.Core.Bool.{true}
+use mathlib.Core.Bool.{Bool, true, false}
 use mathlib.Core.List.{List, [], _∷_, _++_}
+use mathlib.Core.Logic.{_⊎_}
 use lib.ListN.{length, getD}
 use lib.Dec.{eqb, T}
 use Rattle.lane.specs.declared.Settings.{Settings}
 use Rattle.lane.specs.declared.Insn.{Insn}
 use Rattle.lane.specs.declared.Stepped.{Stepped}
-use Rattle.lane.specs.Words.{pick}
+use Rattle.lane.specs.Words.{pick, bit, laneConfig, reg, enabled}
+use Rattle.lane.specs.Load.{address, placeOf, bf16}
+use Rattle.lane.specs.Store.{packedBf16, cells}
 use Rattle.lane.specs.Refusals.{laneStep}
 use Rattle.runner.specs.declared.Outcome.{Outcome}
 use Rattle.runner.specs.Image.{laneIn, imageGood}
-use Rattle.runner.specs.Checks.{countOf, runAnswer, listAnswer}
-use Rattle.runner.specs.Run.{finish, Ran}
+use Rattle.runner.specs.Checks.{insnAt, countOf, runAnswer, listAnswer}
+use Rattle.runner.specs.Run.{Machine, steps, finish, Ran}
 use Rattle.listing.specs.declared.Reading.{Reading}
 use Rattle.listing.specs.declared.Writing.{Writing}
 use Rattle.listing.specs.declared.Reporting.{Reporting}
@@ -41,21 +44,22 @@ unfoldable pub SameCells : ℕ → List ℕ → List ℕ → Type 0
 SameCells c d e = (p : ℕ) → p < 16384 → p % 16 / 2 ≡ c → getD d p 0 ≡ getD e p 0
 
 -- Demand 3: two runs with one list and the same settings that agree in a column's four lanes and its two Dst columns give that column the same
--- words, and the same answer, place, steps and cursor, whatever the other seven hold.
+-- words and, in its two Dst columns, the same cells, and the same answer, place, steps and cursor, whatever the other seven hold.
 unfoldable pub Isolated : Type 0
 Isolated =
-    (c : ℕ) (s : Settings) (list a b d e : List ℕ) (o p : Outcome) (x y : List ℕ)
+    (c : ℕ) (s : Settings) (list a b d e : List ℕ) (o p : Outcome) (x y u v : List ℕ)
     → WellFormedImage a
     → WellFormedImage b
     → length d ≡ 16384
     → length e ≡ 16384
     → SameColumn c a b
     → SameCells c d e
-    → Ran s a d list o x
-    → Ran s b e list p y
-    → (o ≡ p) × SameColumn c x y
+    → Ran s a d list o x u
+    → Ran s b e list p y v
+    → (o ≡ p) × (SameColumn c x y × SameCells c u v)
 
--- There are two runs that it speaks of: their images differ outside column 0, and so do their Dsts; the list is accepted, and it changes column 0.
+-- There are two runs that it speaks of: their images differ outside column 0, and so do their Dsts; the list is accepted, and it changes column 0, its
+-- words and its cells.
 pub record TwoRuns : Type 0 where
   pub settings : Settings
   pub list : List ℕ
@@ -65,6 +69,7 @@ pub record TwoRuns : Type 0 where
   pub other-dst : List ℕ
   pub outcome : Outcome
   pub after : List ℕ
+  pub stored : List ℕ
   pub formed : WellFormedImage image
   pub other-formed : WellFormedImage other-image
   pub dst-long : length dst ≡ 16384
@@ -73,42 +78,53 @@ pub record TwoRuns : Type 0 where
   pub same-cells : SameCells 0 dst other-dst
   pub images-differ : SameColumn 1 image other-image → ⊥
   pub dsts-differ : SameCells 1 dst other-dst → ⊥
-  pub ran : Ran settings image dst list outcome after
+  pub ran : Ran settings image dst list outcome after stored
   pub accepted : outcome .answer ≡ 0
   pub changed : SameColumn 0 image after → ⊥
+  pub cells-changed : SameCells 0 dst stored → ⊥
+
+-- Two lanes never meet in a cell of Dst, and a lane's cells lie in the two Dst columns of its own column, whatever the address.
+unfoldable pub CellsApart : Type 0
+CellsApart =
+    (a b L M : ℕ) (odd other : Bool)
+    → L < 32
+    → M < 32
+    → (placeOf a L odd ≡ placeOf b M other → L ≡ M) × (placeOf a L odd % 16 / 2 ≡ L % 8)
 
 -- ---- runs
 
--- A refusal returns its number and place, steps 0 and the given cursor, and touches no word of the image.
+-- A refusal returns its number and place, steps 0 and the given cursor, and touches no word of the image and no cell of Dst.
 unfoldable pub RefusalTouchesNothing : Type 0
 RefusalTouchesNothing =
-    (s : Settings) (image dst list : List ℕ) (o : Outcome) (after : List ℕ)
-    → Ran s image dst list o after
+    (s : Settings) (image dst list : List ℕ) (o : Outcome) (after stored : List ℕ)
+    → Ran s image dst list o after stored
     → (o .answer ≡ 0 → ⊥)
     → (after ≡ image)
-    × ((o .answer ≡ runAnswer s image dst list .answer) × ((o .place ≡ runAnswer s image dst list .place) × ((o .steps ≡ 0) × (o .cursor ≡ s .cursor))))
+    × ((stored ≡ dst)
+    × ((o .answer ≡ runAnswer s image dst list .answer) × ((o .place ≡ runAnswer s image dst list .place) × ((o .steps ≡ 0) × (o .cursor ≡ s .cursor)))))
 
--- An instruction that the lane rules refuse leaves the lane's words as given.
+-- An instruction that the lane rules refuse leaves the lane's words and its two cells as given.
 unfoldable pub RefusedLaneTouchesNothing : Type 0
 RefusedLaneTouchesNothing =
     (s : Settings) (L : ℕ) (i : Insn) (own head : List ℕ) (even odd : ℕ)
     → (laneStep s L i own head even odd .answer ≡ 0 → ⊥)
-    → laneStep s L i own head even odd .words ≡ own
+    → (laneStep s L i own head even odd .words ≡ own) × (laneStep s L i own head even odd .cells ≡ cells even odd)
 
--- A run that is done has gone through the whole list: its steps are the list's instructions, its image and cursor the ones that they lead to.
+-- A run that is done has gone through the whole list: its steps are the list's instructions, its image, Dst and cursor the ones that they lead to.
 unfoldable pub GoesThroughTheList : Type 0
 GoesThroughTheList =
-    (s : Settings) (image dst list : List ℕ) (o : Outcome) (after : List ℕ)
-    → Ran s image dst list o after
+    (s : Settings) (image dst list : List ℕ) (o : Outcome) (after stored : List ℕ)
+    → Ran s image dst list o after stored
     → o .answer ≡ 0
     → (o .steps ≡ countOf list)
-    × ((o .place ≡ 0) × ((o .cursor ≡ finish s image dst list .cursor) × (after ≡ finish s image dst list .image)))
+    × ((o .place ≡ 0)
+    × ((o .cursor ≡ finish s image dst list .cursor) × ((after ≡ finish s image dst list .image) × (stored ≡ finish s image dst list .dst))))
 
 -- A well formed image is well formed after every run.
 unfoldable pub WellFormedStays : Type 0
 WellFormedStays =
-    (s : Settings) (image dst list : List ℕ) (o : Outcome) (after : List ℕ)
-    → Ran s image dst list o after
+    (s : Settings) (image dst list : List ℕ) (o : Outcome) (after stored : List ℕ)
+    → Ran s image dst list o after stored
     → WellFormedImage image
     → WellFormedImage after
 
@@ -126,17 +142,49 @@ withCursor k s =
       stride3 = s .stride3;
     }
 
--- A run can be cut anywhere: where a list of two parts is done, so is its first part, and so is the second from the image and the cursor that the first
--- leaves; it ends in the same image with the same cursor, and the steps add up.
+-- A run can be cut anywhere: where a list of two parts is done, so is its first part, and so is the second from the image, the Dst and the cursor that the
+-- first leaves; it ends in the same image and Dst with the same cursor, and the steps add up.
 unfoldable pub CanBeCut : Type 0
 CanBeCut =
-    (s : Settings) (image dst a b : List ℕ) (o p q : Outcome) (after middle end : List ℕ)
+    (s : Settings) (image dst a b : List ℕ) (o p q : Outcome) (after stored middle between end ended : List ℕ)
     → length a % 6 ≡ 0
-    → Ran s image dst (a ++ b) o after
+    → Ran s image dst (a ++ b) o after stored
     → o .answer ≡ 0
-    → Ran s image dst a p middle
-    → Ran (withCursor (p .cursor) s) middle dst b q end
-    → (p .answer ≡ 0) × ((q .answer ≡ 0) × ((end ≡ after) × ((q .cursor ≡ o .cursor) × (o .steps ≡ p .steps + q .steps))))
+    → Ran s image dst a p middle between
+    → Ran (withCursor (p .cursor) s) middle between b q end ended
+    → (p .answer ≡ 0)
+    × ((q .answer ≡ 0) × ((end ≡ after) × ((ended ≡ stored) × ((q .cursor ≡ o .cursor) × (o .steps ≡ p .steps + q .steps)))))
+
+-- ---- STORE
+
+-- STORE's mod 2 is the exact inverse of BF16's unpacking on the high half: unpacking what was packed gives the word with its low half 0, for every word;
+-- packing what was unpacked gives the cell, for every cell.
+unfoldable pub PackingInverts : Type 0
+PackingInverts = ((w : ℕ) → bf16 (packedBf16 w) ≡ w / 2 ^ 16 * 2 ^ 16) × ((x : ℕ) → packedBf16 (bf16 x) ≡ x)
+
+-- What a LOAD with mod n gives back of a word that a STORE with mod m stored: both in 2 or both in 7, the word with its low half 0; in 6 or 9, its low half.
+pub record GivesBack (m n word back : ℕ) : Type 0 where
+  pub high : ((m ≡ 2) × (n ≡ 2)) ⊎ ((m ≡ 7) × (n ≡ 7)) → back ≡ word / 2 ^ 16 * 2 ^ 16
+  pub low : (m ≡ 6) ⊎ (m ≡ 9) → (n ≡ 6) ⊎ (n ≡ 9) → back ≡ word % 2 ^ 16
+
+-- The address at which an instruction meets Dst, from the machine before it.
+abbrev pub addressAt : Settings → Insn → Machine → ℕ
+addressAt s i m = address (i .imm) (s .offset) (m .cursor)
+
+-- A STORE, instruction k of a list, directly followed by a LOAD to a register below 8 at the same address gives it back, from any image and Dst, in a lane
+-- that is enabled and not blocked. (It is so for both: STORE changes no flag and no LaneConfig.)
+unfoldable pub StoredThenLoaded : Type 0
+StoredThenLoaded =
+    (s : Settings) (list : List ℕ) (k : ℕ) (m : Machine) (L : ℕ)
+    → insnAt list k .op ≡ 16
+    → insnAt list (suc k) .op ≡ 1
+    → insnAt list (suc k) .vd < 8
+    → addressAt s (insnAt list (suc k)) (steps s list (suc k) m) ≡ addressAt s (insnAt list k) (steps s list k m)
+    → L < 32
+    → enabled (laneIn (steps s list k m .image) L) ≡ true
+    → bit (laneIn (steps s list k m .image) L laneConfig) 1 ≡ false
+    → GivesBack (insnAt list k .md) (insnAt list (suc k) .md) (reg L (laneIn (steps s list k m .image) L) (insnAt list k .vd))
+    (laneIn (steps s list (suc (suc k)) m .image) L (insnAt list (suc k) .vd))
 
 -- ---- listings
 
@@ -214,10 +262,10 @@ TenNamesTheLine =
 -- Any two outcomes that a promise allows coincide, with all that was lent: of `run`,
 unfoldable pub RunsCoincide : Type 0
 RunsCoincide =
-    (s : Settings) (image dst list : List ℕ) (o p : Outcome) (x y : List ℕ)
-    → Ran s image dst list o x
-    → Ran s image dst list p y
-    → (o ≡ p) × (x ≡ y)
+    (s : Settings) (image dst list : List ℕ) (o p : Outcome) (x y u v : List ℕ)
+    → Ran s image dst list o x u
+    → Ran s image dst list p y v
+    → (o ≡ p) × ((x ≡ y) × (u ≡ v))
 
 -- of the lane rules,
 unfoldable pub LanesCoincide : Type 0

@@ -8,31 +8,35 @@ use Rattle.lane.specs.declared.Insn.{Insn}
 use Rattle.lane.specs.declared.Stepped.{Stepped}
 use Rattle.lane.specs.Refusals.{laneStep}
 use Rattle.runner.specs.declared.Outcome.{Outcome}
-use Rattle.runner.specs.Run.{outcomeOf, runImage, Ran}
+use Rattle.runner.specs.Run.{outcomeOf, runImage, runDst, Ran}
 use Rattle.listing.specs.declared.Reading.{Reading}
 use Rattle.listing.specs.declared.Writing.{Writing}
 use Rattle.listing.specs.declared.Reporting.{Reporting}
 use Rattle.listing.specs.Listing.{readText, writeList, inFront}
 use Rattle.listing.specs.Report.{Printed, reported, reporting, Reports}
-use Rattle.host.specs.Words.{outcomeWords, settingsWords, readingWords, writingWords}
+use Rattle.host.specs.Words.{outcomeWords, cellsWords, settingsWords, readingWords, writingWords}
 
 pub told-run :
-    (s t : Settings) (image dst list left : List ℕ) (o : Outcome)
+    (s t : Settings) (image dst list left stored : List ℕ) (o : Outcome)
     → s ≡ t
-    → Ran s image dst list o left
+    → Ran s image dst list o left stored
     → (o .answer ≡ outcomeOf t image dst list .answer)
-    × ((outcomeWords o ≡ outcomeWords (outcomeOf t image dst list)) × (left ≡ runImage t image dst list))
-told-run s t image dst list left o e h =
-    rw (← e) (ap (λ (x : Outcome). x .answer) (h .outcome-is), (ap outcomeWords (h .outcome-is), h .image-is))
+    × ((outcomeWords o ≡ outcomeWords (outcomeOf t image dst list))
+    × ((left ≡ runImage t image dst list) × (stored ≡ runDst t image dst list)))
+told-run s t image dst list left stored o e h =
+    rw (← e) (ap (λ (x : Outcome). x .answer) (h .outcome-is), (ap outcomeWords (h .outcome-is), (h .image-is, h .dst-is)))
 
 pub told-lane :
     (s t : Settings) (L : ℕ) (i j : Insn) (own head : List ℕ) (even odd : ℕ) (o : Stepped)
     → s ≡ t
     → i ≡ j
     → o ≡ laneStep s L i own head even odd
-    → (o .answer ≡ laneStep t L j own head even odd .answer) × (o .words ≡ laneStep t L j own head even odd .words)
+    → (o .answer ≡ laneStep t L j own head even odd .answer)
+    × ((o .words ≡ laneStep t L j own head even odd .words)
+    × (cellsWords (o .cells) ≡ cellsWords (laneStep t L j own head even odd .cells)))
 told-lane s t L i j own head even odd o e f h =
-    rw (← e, ← f) (ap (λ (x : Stepped). x .answer) h, ap (λ (x : Stepped). x .words) h)
+    rw (← e, ← f)
+    (ap (λ (x : Stepped). x .answer) h, (ap (λ (x : Stepped). x .words) h, ap (λ (x : Stepped). cellsWords (x .cells)) h))
 
 pub told-read :
     (room : ℕ) (text list left : List ℕ) (r : Reading)

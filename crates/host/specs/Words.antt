@@ -4,6 +4,7 @@ use mathlib.Core.List.{List, [], _∷_}
 use lib.ListN.{getD}
 use Rattle.lane.specs.declared.Settings.{Settings}
 use Rattle.lane.specs.declared.Insn.{Insn}
+use Rattle.lane.specs.declared.Cells.{Cells}
 use Rattle.runner.specs.declared.Outcome.{Outcome}
 use Rattle.listing.specs.declared.Reading.{Reading}
 use Rattle.listing.specs.declared.Writing.{Writing}
@@ -24,6 +25,10 @@ insnOf ws =
 unfoldable pub outcomeWords : Outcome → List ℕ
 outcomeWords o = o .answer ∷ (o .steps ∷ (o .place ∷ (o .cursor ∷ [])))
 
+-- A lane's two cells: even, odd.
+unfoldable pub cellsWords : Cells → List ℕ
+cellsWords c = c .even ∷ (c .odd ∷ [])
+
 -- Settings as eight words, and what a reading and a writing return as five: answer, steps, place, cursor, length.
 unfoldable pub settingsWords : Settings → List ℕ
 settingsWords s =
@@ -37,4 +42,4 @@ writingWords r = r .answer ∷ (r .steps ∷ (r .place ∷ (r .cursor ∷ (r .le
 
 -- What the library replays: 1000 is document 01 by itself, and 1000 plus n is with the requests of document 02 up to M-n.
 abbrev pub version : ℕ
-version = 1100
+version = 1101

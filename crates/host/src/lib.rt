@@ -12,17 +12,17 @@ use runner::run::run;
 use runner::view::register_count;
 use runner::view::register_start;
 ghost use mathlib.Core.Path.{_≡_};
-ghost use lib.ListN.{length};
+ghost use lib.ListN.{length, getD};
 ghost use Rattle.lane.specs.Refusals.{laneStep};
-ghost use Rattle.runner.specs.Run.{outcomeOf, runImage};
+ghost use Rattle.runner.specs.Run.{outcomeOf, runImage, runDst};
 ghost use Rattle.runner.specs.Image.{registerStart, registerCount};
 ghost use Rattle.listing.specs.Listing.{settingsOf, readText, writeList, inFront};
 ghost use Rattle.listing.specs.Program.{output};
 ghost use Rattle.listing.specs.Report.{reported, reporting};
-ghost use Rattle.host.specs.Words.{settingsWords, insnOf, outcomeWords, readingWords, writingWords, version};
+ghost use Rattle.host.specs.Words.{settingsWords, insnOf, outcomeWords, cellsWords, readingWords, writingWords, version};
 
 // What the library replays, as specs/ counts it.
-const VERSION: u32 = 1100;
+const VERSION: u32 = 1101;
 
 // An instruction, from six words in the list's order.
 fn insn_of(words: &[u32; 6]) -> Insn
@@ -38,25 +38,26 @@ fn insn_of(words: &[u32; 6]) -> Insn
     }
 }
 
-// A run of a list over an image and a Dst. The answer is returned, and stands first in `outcome`.
+// A run of a list over an image and a Dst: a refusal leaves both as they were. The answer is returned, and stands first in `outcome`.
 #[no_mangle]
 pub extern "C" fn replay_run(
     settings: &[u32; 8],
     image: &mut [u32],
-    dst: &[u16],
+    dst: &mut [u16],
     list: &[u32],
     outcome: &mut [u32; 4],
 ) -> u32
     ensures { λ r. ⌜ r ≡ outcomeOf (settingsOf (now (settings .entry))) (now (image .entry)) (now (dst .entry)) (now (list .entry)) .answer ⌝ }
     ensures { λ _. ⌜ now (outcome .exit) ≡ outcomeWords (outcomeOf (settingsOf (now (settings .entry))) (now (image .entry)) (now (dst .entry)) (now (list .entry))) ⌝ }
     ensures { λ _. ⌜ now (image .exit) ≡ runImage (settingsOf (now (settings .entry))) (now (image .entry)) (now (dst .entry)) (now (list .entry)) ⌝ }
+    ensures { λ _. ⌜ now (dst .exit) ≡ runDst (settingsOf (now (settings .entry))) (now (image .entry)) (now (dst .entry)) (now (list .entry)) ⌝ }
 {
     let o = run(settings_of(settings), image, dst, list);
     *outcome = [o.answer, o.steps, o.place, o.cursor];
     o.answer
 }
 
-// One instruction in one lane, by the lane rules: a refusal leaves the lane's words as they were.
+// One instruction in one lane, by the lane rules: a refusal leaves the lane's words and its two cells, even and odd, as they were.
 #[no_mangle]
 pub extern "C" fn replay_lane(
     settings: &[u32; 8],
@@ -64,11 +65,11 @@ pub extern "C" fn replay_lane(
     insn: &[u32; 6],
     own: &mut [u32; 24],
     head: &[u32; 24],
-    even_cell: u16,
-    odd_cell: u16,
+    cells: &mut [u16; 2],
 ) -> u32
-    ensures { λ r. ⌜ r ≡ laneStep (settingsOf (now (settings .entry))) lane (insnOf (now (insn .entry))) (now (own .entry)) (now (head .entry)) «even_cell» «odd_cell» .answer ⌝ }
-    ensures { λ _. ⌜ now (own .exit) ≡ laneStep (settingsOf (now (settings .entry))) lane (insnOf (now (insn .entry))) (now (own .entry)) (now (head .entry)) «even_cell» «odd_cell» .words ⌝ }
+    ensures { λ r. ⌜ r ≡ laneStep (settingsOf (now (settings .entry))) lane (insnOf (now (insn .entry))) (now (own .entry)) (now (head .entry)) (getD (now (cells .entry)) 0 0) (getD (now (cells .entry)) 1 0) .answer ⌝ }
+    ensures { λ _. ⌜ now (own .exit) ≡ laneStep (settingsOf (now (settings .entry))) lane (insnOf (now (insn .entry))) (now (own .entry)) (now (head .entry)) (getD (now (cells .entry)) 0 0) (getD (now (cells .entry)) 1 0) .words ⌝ }
+    ensures { λ _. ⌜ now (cells .exit) ≡ cellsWords (laneStep (settingsOf (now (settings .entry))) lane (insnOf (now (insn .entry))) (now (own .entry)) (now (head .entry)) (getD (now (cells .entry)) 0 0) (getD (now (cells .entry)) 1 0) .cells) ⌝ }
 {
     let stepped = step_lane(
         settings_of(settings),
@@ -76,11 +77,13 @@ pub extern "C" fn replay_lane(
         insn_of(insn),
         *own,
         *head,
-        even_cell,
-        odd_cell,
+        cells[0],
+        cells[1],
     );
     let words = stepped.words;
+    let after = stepped.cells;
     *own = words;
+    *cells = [after.even, after.odd];
     stepped.answer
 }
 

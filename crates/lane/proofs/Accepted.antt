@@ -27,7 +27,7 @@ join a b p q = ap (λ (t : Bool). t && b) p ∙ q
 -- an accepted instruction's fields fit their digits
 pub record Narrow (i : Insn) : Type 0 where
   pub known : 0 < i .op
-  pub last : i .op ≤ 15
+  pub last : i .op ≤ 16
   pub imms : i .imm ≤ 65535
   pub vbs : i .vb ≤ 15
   pub vcs : i .vc ≤ 15
@@ -35,17 +35,17 @@ pub record Narrow (i : Insn) : Type 0 where
   pub mods : i .md < 16
 
 -- a field within a table's limit is at most the table's largest
-limited : (limits : List ℕ) (n op x : ℕ) → allBelow 16 (λ (k : ℕ). leb (getD limits k 0) n) ≡ true → op ≤ 15 → within limits op x ≡ true → x ≤ n
+limited : (limits : List ℕ) (n op x : ℕ) → allBelow 17 (λ (k : ℕ). leb (getD limits k 0) n) ≡ true → op ≤ 16 → within limits op x ≡ true → x ≤ n
 limited limits n op x t l h =
     le-trans (leb-true x (getD limits op 0) h)
-    (leb-true (getD limits op 0) n (below-all 16 (λ (k : ℕ). leb (getD limits k 0) n) op t (omega arith)))
+    (leb-true (getD limits op 0) n (below-all 17 (λ (k : ℕ). leb (getD limits k 0) n) op t (omega arith)))
 
 pub fields-fit : (i : Insn) → instructionAnswer true i ≡ 0 → Narrow i
 unfolding instructionAnswer fieldsGood
 fields-fit i h =
     let q = unrefused (opKnown (i .op)) (fieldsGood (i .op) i) true (not (wideLoad (i .op) (i .md))) h in
-    let o = both (leb 1 (i .op)) (leb (i .op) 15) (q .0) in
-    let l = leb-true (i .op) 15 (o .1) in
+    let o = both (leb 1 (i .op)) (leb (i .op) 16) (q .0) in
+    let l = leb-true (i .op) 16 (o .1) in
     let a5 = both _ _ (q .1 .0) in
     let a4 = both _ _ (a5 .0) in
     let a3 = both _ _ (a4 .0) in

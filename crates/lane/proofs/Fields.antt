@@ -7,7 +7,7 @@ use native.Mathlib.Omega.{arith}
 use lib.ListN.{List·getD-eq-default}
 use Rattle.lane.specs.Refusals.{immLimits, vbLimits, vcLimits, vdLimits, modsAllowed, limits, limitsOf}
 
-past : (op : ℕ) → 16 ≤ op → limits 0 0 0 0 0 ≡ limitsOf op
+past : (op : ℕ) → 17 ≤ op → limits 0 0 0 0 0 ≡ limitsOf op
 unfolding limitsOf
 past op h =
     λ i.
@@ -23,8 +23,8 @@ none : (op : ℕ) → op ≡ 0 → limits 0 0 0 0 0 ≡ limitsOf op
 unfolding limitsOf
 none op e = ap limitsOf (sym e)
 
-pub no-row : (op : ℕ) → (op < 16 → op ≡ 0) → limits 0 0 0 0 0 ≡ limitsOf op
-no-row op h = elim (decLe 16 op) [ yes k ↦ past op k | no k ↦ none op (h (lt-of-not-le k)) ]
+pub no-row : (op : ℕ) → (op < 17 → op ≡ 0) → limits 0 0 0 0 0 ≡ limitsOf op
+no-row op h = elim (decLe 17 op) [ yes k ↦ past op k | no k ↦ none op (h (lt-of-not-le k)) ]
 
 -- one number after the other is none of them
 pub less : (n op : ℕ) → op < n + 1 → (op ≡ n → ⊥) → op < n

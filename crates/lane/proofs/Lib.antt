@@ -4,6 +4,8 @@ pub mod Tables
 pub mod Floats
 pub mod Ranks
 pub mod Fields
+pub mod Places
+pub mod Packed
 pub mod Stores
 pub mod Answers
 pub mod Accepted

@@ -15,9 +15,13 @@ address imm offset cursor = (imm + offset + cursor) % 1024
 unfoldable pub stride : Settings → ℕ → ℕ
 stride s vb = pick (eqb vb 0) (s .stride0) (pick (eqb vb 1) (s .stride1) (pick (eqb vb 2) (s .stride2) (s .stride3)))
 
--- "Afterwards, whatever vd is, cursor = (cursor + chosen stride) mod 1024"; other operations leave it.
+-- LOAD meets Dst at an address; so does document 02's 16 STORE, at "the same address, stride and column choice".
+abbrev pub meetsDst : ℕ → Bool
+meetsDst op = eqb op 1 || eqb op 16
+
+-- "Afterwards, whatever vd is, cursor = (cursor + chosen stride) mod 1024"; operations that do not meet Dst leave it.
 unfoldable pub nextCursor : ℕ → ℕ → ℕ → ℕ
-nextCursor op cursor chosen = pick (eqb op 1) ((cursor + chosen) % 1024) cursor
+nextCursor op cursor chosen = pick (meetsDst op) ((cursor + chosen) % 1024) cursor
 
 -- "row = address with its low two bits cleared, plus the lane's row"
 abbrev pub rowOf : ℕ → ℕ → ℕ
@@ -31,9 +35,17 @@ isOdd a exchanged = bit a 1 || exchanged
 abbrev pub columnOf : ℕ → Bool → ℕ
 columnOf L odd = 2 * (L % 8) + flagOf odd
 
--- "row times 16 plus column"
-abbrev pub placeOf : ℕ → ℕ → Bool → ℕ
+-- "row times 16 plus column": where lane L's even or odd cell lies, at address a.
+unfoldable pub placeOf : ℕ → ℕ → Bool → ℕ
 placeOf a L odd = rowOf a L * 16 + columnOf L odd
+
+-- The other way round: the cell at p is in row p div 16 and column p mod 16. At the addresses whose four rows hold it, it is one of the cells of the
+-- lane in row p div 16 mod 4 and column p mod 16 div 2.
+abbrev pub isMet : ℕ → ℕ → Bool
+isMet a p = eqb (p / 16 / 4) (a / 4)
+
+abbrev pub ownerOf : ℕ → ℕ
+ownerOf p = 8 * (p / 16 % 4) + p % 16 / 2
 
 -- Document 003's conversions of a cell of 16 bits.
 

@@ -10,7 +10,8 @@ use Rattle.lane.specs.declared.Limits.{Limits}
 use Rattle.lane.specs.declared.Stepped.{Stepped}
 use Rattle.lane.specs.Words.{pick, bit, Lane, laneConfig, laneFlag, useFlag, misc, laneOf, wordsAfter}
 use Rattle.lane.specs.Load.{address}
-use Rattle.lane.specs.Rule.{storesOf}
+use Rattle.lane.specs.Store.{cells}
+use Rattle.lane.specs.Rule.{storesOf, cellsOf}
 
 -- On with the rest where a test holds, else the refusal n.
 unfoldable pub pass : Bool → ℕ → ℕ → ℕ
@@ -32,24 +33,27 @@ wellFormedBy config flag uses m = ltb config (2 ^ 18) && ltb m (2 ^ 12) && ltb f
 abbrev pub wellFormed : Lane → Bool
 wellFormed own = wellFormedBy (own laneConfig) (own laneFlag) (own useFlag) (own misc)
 
--- "Fields": for each op, from op 0, which is none, to 15 NOP, the largest number that a field may hold; "not named means must be 0".
+-- "Fields": for each op, from op 0, which is none, to 16 STORE, the largest number that a field may hold; "not named means must be 0". Document 02, M-101: STORE
+-- has "fields as LOAD".
 abbrev pub immLimits : List ℕ
-immLimits = 0 ∷ 1023 ∷ 65535 ∷ 0 ∷ 0 ∷ 65535 ∷ 4095 ∷ 0 ∷ 0 ∷ 0 ∷ 0 ∷ 0 ∷ 0 ∷ 0 ∷ 0 ∷ 0 ∷ []
+immLimits = 0 ∷ 1023 ∷ 65535 ∷ 0 ∷ 0 ∷ 65535 ∷ 4095 ∷ 0 ∷ 0 ∷ 0 ∷ 0 ∷ 0 ∷ 0 ∷ 0 ∷ 0 ∷ 0 ∷ 1023 ∷ []
 
 abbrev pub vbLimits : List ℕ
-vbLimits = 0 ∷ 3 ∷ 0 ∷ 0 ∷ 0 ∷ 0 ∷ 0 ∷ 0 ∷ 15 ∷ 15 ∷ 0 ∷ 0 ∷ 0 ∷ 0 ∷ 0 ∷ 0 ∷ []
+vbLimits = 0 ∷ 3 ∷ 0 ∷ 0 ∷ 0 ∷ 0 ∷ 0 ∷ 0 ∷ 15 ∷ 15 ∷ 0 ∷ 0 ∷ 0 ∷ 0 ∷ 0 ∷ 0 ∷ 3 ∷ []
 
 abbrev pub vcLimits : List ℕ
-vcLimits = 0 ∷ 0 ∷ 0 ∷ 0 ∷ 15 ∷ 0 ∷ 15 ∷ 15 ∷ 15 ∷ 15 ∷ 15 ∷ 15 ∷ 15 ∷ 15 ∷ 15 ∷ 0 ∷ []
+vcLimits = 0 ∷ 0 ∷ 0 ∷ 0 ∷ 15 ∷ 0 ∷ 15 ∷ 15 ∷ 15 ∷ 15 ∷ 15 ∷ 15 ∷ 15 ∷ 15 ∷ 15 ∷ 0 ∷ 0 ∷ []
 
 abbrev pub vdLimits : List ℕ
-vdLimits = 0 ∷ 15 ∷ 15 ∷ 15 ∷ 15 ∷ 15 ∷ 15 ∷ 15 ∷ 15 ∷ 15 ∷ 15 ∷ 15 ∷ 15 ∷ 15 ∷ 15 ∷ 0 ∷ []
+vdLimits = 0 ∷ 15 ∷ 15 ∷ 15 ∷ 15 ∷ 15 ∷ 15 ∷ 15 ∷ 15 ∷ 15 ∷ 15 ∷ 15 ∷ 15 ∷ 15 ∷ 15 ∷ 0 ∷ 15 ∷ []
 
--- The mods allowed, mod m as bit m: LOADI 8 or 10; LUT 0, 4, 8 or 12; ABS, AND, OR, EXMAN 0 or 1; XOR, NOT, NOP 0; LZ even; EXEXP without bit 2.
+-- The mods allowed, mod m as bit m: LOADI 8 or 10; LUT 0, 4, 8 or 12; ABS, AND, OR, EXMAN 0 or 1; XOR, NOT, NOP 0; LZ even; EXEXP without bit 2;
+-- STORE 2, 6, 7 or 9 ("Other mods are refused by 8").
 abbrev pub modsAllowed : List ℕ
 modsAllowed =
     0 ∷ 0xFFFF ∷ 0x0500 ∷ 0x1111 ∷ 0xFFFF ∷ 0xFFFF ∷ 0xFFFF ∷ 0x0003 ∷ 0x0003 ∷ 0x0003 ∷ 0x0001 ∷ 0x0001 ∷ 0x5555 ∷ 0x0F0F ∷ 0x0003
     ∷ 0x0001
+    ∷ 0x02C4
     ∷ []
 
 -- A row of those tables.
@@ -82,9 +86,9 @@ fieldsGood op i =
     && modAllowed op (i .md)
     && vbTied op (i .vb) (i .md)
 
--- 7, the other way round: "Fifteen operations, numbered".
+-- 7, the other way round: "Fifteen operations, numbered", and op 16 STORE.
 abbrev pub opKnown : ℕ → Bool
-opKnown op = leb 1 op && leb op 15
+opKnown op = leb 1 op && leb op 16
 
 -- 9: "LOAD mod 3, 4, 10 or 12".
 abbrev pub wideLoad : ℕ → ℕ → Bool
@@ -100,7 +104,7 @@ unfoldable pub laneAnswer : Settings → ℕ → Insn → Lane → Lane → ℕ
 laneAnswer s L i own head =
     pass (settingsGood s) 3 (pass (wellFormed own && wellFormed head) 6 (instructionAnswer (leb L 31) i))
 
--- The answer with the words after, or a refusal with the "words as given".
+-- The answer with the words and the two cells after, or a refusal with the "words as given", and the cells.
 unfoldable pub laneStep : Settings → ℕ → Insn → List ℕ → List ℕ → ℕ → ℕ → Stepped
 laneStep s L i own head even odd =
     record {
@@ -109,4 +113,8 @@ laneStep s L i own head even odd =
           pick (eqb (laneAnswer s L i (laneOf own) (laneOf head)) 0)
           (wordsAfter (storesOf (i .op) s (address (i .imm) (s .offset) (s .cursor)) i L (laneOf head) even odd (laneOf own)) own)
           own;
+      cells =
+          pick (eqb (laneAnswer s L i (laneOf own) (laneOf head)) 0)
+          (cellsOf (i .op) (address (i .imm) (s .offset) (s .cursor)) i L (bit (laneOf head laneConfig) 5) even odd (laneOf own))
+          (cells even odd);
     }

@@ -1,4 +1,4 @@
-// The rules of one lane: the fifteen operations of document 01, both editions, on words.
+// The rules of one lane: the fifteen operations of document 01, both editions, on words, and document 02's STORE.
 //
 // Public is what another crate calls. All of it is total: it has a promise and no `requires`. The promises cite specs/, which renders document 01.
 
@@ -6,6 +6,8 @@
 pub mod words;
 // LOAD's address, conversions and cursor; LOADI.
 pub mod load;
+// STORE's cell.
+pub mod store;
 // SWAP's order and decision.
 pub mod swap;
 // LUT's input, coefficients, sum and word.
@@ -50,10 +52,17 @@ struct Limits {
     mods: u32,
 }
 
-// What the lane rules answer: a number of the clerk's, and the lane's words afterwards.
+// A lane's two cells of Dst, those of its row and column at an address.
+pub struct Cells {
+    pub even: u16,
+    pub odd: u16,
+}
+
+// What the lane rules answer: a number of the clerk's, and the lane's words and its two cells afterwards.
 pub struct Stepped {
     pub answer: u32,
     pub words: [u32; 24],
+    pub cells: Cells,
 }
 
 // A piece of a LUT: what a coefficient word's two bytes stand for.

@@ -32,7 +32,8 @@ pub fn stride(s: Settings, vb: u32) -> u32
 pub fn next_cursor(op: u32, cursor: u32, chosen: u32) -> u32
     ensures { λ r. ⌜ r ≡ Load.nextCursor op cursor chosen ⌝ }
 {
-    if op == 1 {
+    let meets_dst = (op == 1) | (op == 16);
+    if meets_dst {
         (cursor % 1024 + chosen % 1024) % 1024
     } else {
         cursor

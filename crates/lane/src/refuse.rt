@@ -86,6 +86,8 @@ fn limits_of(op: u32) -> Limits
         14 => row(0, 0, 15, 15, 0x0003),
         // NOP
         15 => row(0, 0, 0, 0, 0x0001),
+        // STORE
+        16 => row(1023, 3, 0, 15, 0x02C4),
         _ => row(0, 0, 0, 0, 0),
     }
 }
@@ -107,7 +109,7 @@ fn fields_good(i: Insn) -> bool
 pub fn instruction_answer(also: bool, i: Insn) -> u32
     ensures { λ r. ⌜ r ≡ Refusals.instructionAnswer also i ⌝ }
 {
-    let known = (1 <= i.op) & (i.op <= 15);
+    let known = (1 <= i.op) & (i.op <= 16);
     if known {
         let good = fields_good(i) & also;
         if good {

@@ -1,4 +1,5 @@
-// One instruction in one lane: its 24 words, row 0's 24 words and its two cells of Dst by value, and the words afterwards.
+// One instruction in one lane: its 24 words, row 0's 24 words and its two cells of Dst by value, and the words and the cells afterwards.
+use crate::Cells;
 use crate::Insn;
 use crate::LutAnswer;
 use crate::Settings;
@@ -28,6 +29,7 @@ use crate::lut::lut_register;
 use crate::lut::lut_result;
 use crate::lut::lut_word;
 use crate::refuse::lane_answer;
+use crate::store::stored_cell;
 use crate::swap::acts;
 use crate::swap::in_mask;
 use crate::swap::mask_of;
@@ -43,8 +45,9 @@ use crate::words::fixed_word;
 ghost use mathlib.Core.Path.{_≡_};
 ghost use mathlib.Core.List.{[], _∷_};
 ghost use Prim.Native.Nat.{_+_};
-ghost use Rattle.lane.specs.Words.{pick, reg, laneOf, wordsAfter};
+ghost use Rattle.lane.specs.Words.{pick, bit, reg, laneOf, wordsAfter};
 ghost use Rattle.lane.specs.Load as Load;
+ghost use Rattle.lane.specs.Store as Store;
 ghost use Rattle.lane.specs.Swap as Swap;
 ghost use Rattle.lane.specs.Lut as Lut;
 ghost use Rattle.lane.specs.Config as Config;
@@ -155,6 +158,45 @@ fn load_lane(
     let odd = is_odd(a, exchanged);
     let cell = cell_of(odd, even_cell, odd_cell);
     load_cell(own, i.vd, resolved(srcb, i.md), cell, place(a, lane, odd))
+}
+
+// Two cells with another in the place of one.
+fn with_cell(odd: bool, cell: u16, even_cell: u16, odd_cell: u16) -> Cells
+    ensures { λ r. ⌜ r ≡ Store.withCell odd cell «even_cell» «odd_cell» ⌝ }
+{
+    if odd {
+        Cells {
+            even: even_cell,
+            odd: cell,
+        }
+    } else {
+        Cells {
+            even: cell,
+            odd: odd_cell,
+        }
+    }
+}
+
+// STORE.
+fn store_lane(
+    a: u16,
+    i: Insn,
+    lane: u8,
+    exchanged: bool,
+    even_cell: u16,
+    odd_cell: u16,
+    own: [u32; 24],
+) -> Cells
+    ensures { λ r. ⌜ r ≡ Store.store a i lane exchanged «even_cell» «odd_cell» (laneOf own) ⌝ }
+{
+    if enabled(own[USE_FLAG], own[LANE_FLAG]) {
+        let cell = stored_cell(i.md, register(&own, lane, i.vd));
+        return with_cell(is_odd(a, exchanged), cell, even_cell, odd_cell);
+    }
+    Cells {
+        even: even_cell,
+        odd: odd_cell,
+    }
 }
 
 // LOADI.
@@ -350,8 +392,16 @@ fn lanewise_words(
         12 => lz_lane(i, lane, own),
         13 => exexp_lane(i, lane, own),
         15 => own,
+        16 => own,
         _ => valued_lane(op, i, lane, own),
     }
+}
+
+// Bit 5 of row 0's LaneConfig.
+fn is_exchanged(head: [u32; 24]) -> bool
+    ensures { λ r. ⌜ r ≡ bit (laneOf head 12) 5 ⌝ }
+{
+    head[LANE_CONFIG] / 32 % 2 == 1
 }
 
 // Any operation, at the address that the settings give.
@@ -371,11 +421,33 @@ fn lane_words(
         return config_lane(s.edition, i, lane, head, own);
     }
     let a = address(i.imm, s.offset, s.cursor);
-    let exchanged = head[LANE_CONFIG] / 32 % 2 == 1;
+    let exchanged = is_exchanged(head);
     lanewise_words(op, s.srcb, a, i, lane, exchanged, even_cell, odd_cell, own)
 }
 
-// The lane rules: a refusal with the words as given, or 0 with the words after.
+// The two cells after any operation, at the address that the settings give.
+fn lane_cells(
+    s: Settings,
+    i: Insn,
+    lane: u8,
+    head: [u32; 24],
+    even_cell: u16,
+    odd_cell: u16,
+    own: [u32; 24],
+) -> Cells
+    ensures { λ r. ⌜ r ≡ Rule.cellsOf (i .op) (Load.address (i .imm) (s .offset) (s .cursor)) i lane (bit (laneOf head 12) 5) «even_cell» «odd_cell» (laneOf own) ⌝ }
+{
+    if i.op == 16 {
+        let a = address(i.imm, s.offset, s.cursor);
+        return store_lane(a, i, lane, is_exchanged(head), even_cell, odd_cell, own);
+    }
+    Cells {
+        even: even_cell,
+        odd: odd_cell,
+    }
+}
+
+// The lane rules: a refusal with the words and the cells as given, or 0 with those after.
 pub fn step_lane(
     s: Settings,
     lane: u32,
@@ -389,9 +461,23 @@ pub fn step_lane(
 {
     let answer = lane_answer(s, lane, i, own, head);
     if answer == 0 {
-        let words = lane_words(s, i, lane as u8, head, even_cell, odd_cell, own);
-        Stepped { answer: 0, words }
+        let n = lane as u8;
+        let words = lane_words(s, i, n, head, even_cell, odd_cell, own);
+        let cells = lane_cells(s, i, n, head, even_cell, odd_cell, own);
+        Stepped {
+            answer: 0,
+            words,
+            cells,
+        }
     } else {
-        Stepped { answer, words: own }
+        let cells = Cells {
+            even: even_cell,
+            odd: odd_cell,
+        };
+        Stepped {
+            answer,
+            words: own,
+            cells,
+        }
     }
 }

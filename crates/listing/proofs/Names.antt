@@ -65,22 +65,22 @@ every-at (suc n) f k h e = go (eq-or-lt-of-le (le-of-suc-le-suc h)) (λ l. every
     go (inr l) r = r l
 
 -- no name begins with an earlier one, but for op 0's, which is none
-apart : every 16 (λ j. every j (λ k. eqb k 0 || clash (nameOf j) (nameOf k))) ≡ true
+apart : every 17 (λ j. every j (λ k. eqb k 0 || clash (nameOf j) (nameOf k))) ≡ true
 unfolding names nameOf bytes spell every clash begins
 apart = refl
 
-apart-at : (j k : ℕ) → j < 16 → k < j → 0 < k → clash (nameOf j) (nameOf k) ≡ true
+apart-at : (j k : ℕ) → j < 17 → k < j → 0 < k → clash (nameOf j) (nameOf k) ≡ true
 apart-at j zero h l z = absurd (not-suc-le-zero z)
 apart-at j (suc k) h l z =
     rw (ne-eqb (suc k) 0 (λ e. omega arith)) at
-    (every-at j (λ m. eqb m 0 || clash (nameOf j) (nameOf m)) (suc k) l (every-at 16 _ j h apart))
+    (every-at j (λ m. eqb m 0 || clash (nameOf j) (nameOf m)) (suc k) l (every-at 17 _ j h apart))
 
-pub opOf-name : (n op : ℕ) (r : List ℕ) → 0 < op → op ≤ n → n ≤ 15 → opOf n (nameOf op ++ r) ≡ op
+pub opOf-name : (n op : ℕ) (r : List ℕ) → 0 < op → op ≤ n → n ≤ 16 → opOf n (nameOf op ++ r) ≡ op
 unfolding opOf
 opOf-name zero op r z h k = omega arith
 opOf-name (suc n) op r z h k = go (eq-or-lt-of-le h) (opOf-name n op r z)
   where
-    go : (op ≡ suc n) ⊎ (op < suc n) → (op ≤ n → n ≤ 15 → opOf n (nameOf op ++ r) ≡ op) → opOf (suc n) (nameOf op ++ r) ≡ op
+    go : (op ≡ suc n) ⊎ (op < suc n) → (op ≤ n → n ≤ 16 → opOf n (nameOf op ++ r) ≡ op) → opOf (suc n) (nameOf op ++ r) ≡ op
     go (inl e) g =
         pick-true (begins (nameOf (suc n)) (nameOf op ++ r)) (suc n) (opOf n (nameOf op ++ r))
         (rw e (begins-self (nameOf (suc n)) r))
@@ -102,7 +102,7 @@ opOf-begins (suc n) t h = go (begins (nameOf (suc n)) t) refl (opOf-begins n t) 
     go true e g k = (e, omega arith)
     go false e g k = let q = g k in (q .0, omega arith)
 
--- what the search from 15 down does at one op
+-- what the search from 16 down does at one op
 pub opOf-here : (op : ℕ) (t : List ℕ) → 0 < op → begins (nameOf op) t ≡ true → opOf op t ≡ op
 unfolding opOf
 opOf-here zero t z h = absurd (not-suc-le-zero z)
@@ -114,50 +114,50 @@ opOf-down zero t z h = absurd (not-suc-le-zero z)
 opOf-down (suc n) t z h =
     pick-false (begins (nameOf (suc n)) t) (suc n) (opOf n t) h ∙ ap (λ (k : ℕ). opOf k t) {x = n} {y = suc n - 1} (omega arith)
 
--- ---- the code's table: sixteen cells of seven bytes, and how many of them are the name's
+-- ---- the code's table: seventeen cells of seven bytes, and how many of them are the name's
 
 abbrev pub cells : List ℕ
-cells = bytes "       LOAD   LOADI  LUT    SWAP   CONFIG IADD   ABS    AND    OR     XOR    NOT    LZ     EXEXP  EXMAN  NOP    "
+cells = bytes "       LOAD   LOADI  LUT    SWAP   CONFIG IADD   ABS    AND    OR     XOR    NOT    LZ     EXEXP  EXMAN  NOP    STORE  "
 
 abbrev pub lengths : List ℕ
-lengths = 0 ∷ 5 ∷ 6 ∷ 4 ∷ 5 ∷ 7 ∷ 5 ∷ 4 ∷ 4 ∷ 3 ∷ 4 ∷ 4 ∷ 3 ∷ 6 ∷ 6 ∷ 4 ∷ []
+lengths = 0 ∷ 5 ∷ 6 ∷ 4 ∷ 5 ∷ 7 ∷ 5 ∷ 4 ∷ 4 ∷ 3 ∷ 4 ∷ 4 ∷ 3 ∷ 6 ∷ 6 ∷ 4 ∷ 6 ∷ []
 
-cells-good : every 16 (λ op. every (length (nameOf op)) (λ i. eqb (getD cells (7 * op + i) 0) (getD (nameOf op) i 0))) ≡ true
+cells-good : every 17 (λ op. every (length (nameOf op)) (λ i. eqb (getD cells (7 * op + i) 0) (getD (nameOf op) i 0))) ≡ true
 unfolding names nameOf bytes spell every
 cells-good = refl
 
-letters : every 16 (λ op. every (length (nameOf op)) (λ i. ltb 0 (getD (nameOf op) i 0))) ≡ true
+letters : every 17 (λ op. every (length (nameOf op)) (λ i. ltb 0 (getD (nameOf op) i 0))) ≡ true
 unfolding names nameOf bytes spell every
 letters = refl
 
-lengths-good : every 16 (λ op. eqb (getD lengths op 0) (length (nameOf op))) ≡ true
+lengths-good : every 17 (λ op. eqb (getD lengths op 0) (length (nameOf op))) ≡ true
 unfolding names nameOf bytes spell every
 lengths-good = refl
 
-lengths-small : every 16 (λ op. ltb (length (nameOf op)) 8) ≡ true
+lengths-small : every 17 (λ op. ltb (length (nameOf op)) 8) ≡ true
 unfolding names nameOf bytes spell every
 lengths-small = refl
 
-pub cell-at : (op i : ℕ) → op < 16 → i < length (nameOf op) → getD cells (7 * op + i) 0 ≡ getD (nameOf op) i 0
-cell-at op i h l = eqb-true _ _ (every-at (length (nameOf op)) _ i l (every-at 16 _ op h cells-good))
+pub cell-at : (op i : ℕ) → op < 17 → i < length (nameOf op) → getD cells (7 * op + i) 0 ≡ getD (nameOf op) i 0
+cell-at op i h l = eqb-true _ _ (every-at (length (nameOf op)) _ i l (every-at 17 _ op h cells-good))
 
-pub letter-at : (op i : ℕ) → op < 16 → i < length (nameOf op) → 0 < getD (nameOf op) i 0
-letter-at op i h l = ltb-true _ _ (every-at (length (nameOf op)) _ i l (every-at 16 _ op h letters))
+pub letter-at : (op i : ℕ) → op < 17 → i < length (nameOf op) → 0 < getD (nameOf op) i 0
+letter-at op i h l = ltb-true _ _ (every-at (length (nameOf op)) _ i l (every-at 17 _ op h letters))
 
-pub length-at : (op : ℕ) → op < 16 → getD lengths op 0 ≡ length (nameOf op)
-length-at op h = eqb-true _ _ (every-at 16 _ op h lengths-good)
+pub length-at : (op : ℕ) → op < 17 → getD lengths op 0 ≡ length (nameOf op)
+length-at op h = eqb-true _ _ (every-at 17 _ op h lengths-good)
 
-pub length-name : (op : ℕ) → op < 16 → length (nameOf op) < 8
-length-name op h = ltb-true _ _ (every-at 16 _ op h lengths-small)
+pub length-name : (op : ℕ) → op < 17 → length (nameOf op) < 8
+length-name op h = ltb-true _ _ (every-at 17 _ op h lengths-small)
 
--- a number past 15 has no name
-pub no-name : (op : ℕ) → 16 ≤ op → nameOf op ≡ []
+-- a number past 16 has no name
+pub no-name : (op : ℕ) → 17 ≤ op → nameOf op ≡ []
 unfolding names nameOf
 no-name op h = List·getD-eq-default names [] {n = op} h
 
 pub length-names : (op : ℕ) → length (nameOf op) ≤ 7
-length-names op = go (decLt op 16)
+length-names op = go (decLt op 17)
   where
-    go : Dec (op < 16) → length (nameOf op) ≤ 7
+    go : Dec (op < 17) → length (nameOf op) ≤ 7
     go (yes h) = omega (arith, length-name op h)
     go (no h) = rw (no-name op (omega arith)) (omega arith)

@@ -106,15 +106,15 @@ pub begins-ends : (p t : List ℕ) (at i : ℕ) → length p ≤ i → begins (d
 unfolding begins
 begins-ends p t at i l = rw (drop-of-length-le p {i = i} l)
 
-pub name-missing : (t : List ℕ) (at op : ℕ) → op ≡ opOf 15 (drop at t) → op ≡ 0 → scanName (drop at t) ≡ faulty 0
+pub name-missing : (t : List ℕ) (at op : ℕ) → op ≡ opOf 16 (drop at t) → op ≡ 0 → scanName (drop at t) ≡ faulty 0
 unfolding scanName
 name-missing t at op e z = pick-true _ _ _ (eq-eqb _ _ (sym e ∙ z))
 
-pub name-found : (t : List ℕ) (at op : ℕ) → op ≡ opOf 15 (drop at t) → (op ≡ 0 → ⊥) → at ≤ length t
+pub name-found : (t : List ℕ) (at op : ℕ) → op ≡ opOf 16 (drop at t) → (op ≡ 0 → ⊥) → at ≤ length t
     → (at + length (nameOf op) ≤ length t) × (scanName (drop at t) ≡ taken (op ∷ []) (drop (at + length (nameOf op)) t))
 unfolding scanName
 name-found t at op e z l =
-    let q = opOf-begins 15 (drop at t) (rw (← e) (omega arith)) in
+    let q = opOf-begins 16 (drop at t) (rw (← e) (omega arith)) in
     let s : drop at t ≡ nameOf op ++ drop (length (nameOf op)) (drop at t) = begins-split (nameOf op) (drop at t) (rw e (q .0)) in (
       omega (arith, length-drop at t, simp length-append at (ap length s)),
       rw (← e) (pick-false _ _ _ (ne-eqb op 0 z) ∙ cc (drop-drop (length (nameOf op)) at t)),

@@ -38,7 +38,7 @@ unfoldable pub Fit : Item → ℕ → Type 0
 Fit (lit c) n = Unit
 Fit (dec w) n = n < 10 ^ w
 Fit (hex w) n = n < 16 ^ w
-Fit name n = (0 < n) × (n ≤ 15)
+Fit name n = (0 < n) × (n ≤ 16)
 
 -- what is known of the item that was taken from a text
 pub record Taken (i : Item) (t ns rest : List ℕ) : Type 0 where
@@ -62,14 +62,14 @@ byte-taken c (b ∷ t) ns rest e =
     (rw (← (q .1)) refl, cc (eqb-true b c (q .0)))
 
 name-taken : (t ns rest : List ℕ) → scanName t ≡ taken ns rest
-    → (length ns ≡ 1) × (t ≡ nameOf (getD ns 0 0) ++ rest) × ((0 < getD ns 0 0) × (getD ns 0 0 ≤ 15))
+    → (length ns ≡ 1) × (t ≡ nameOf (getD ns 0 0) ++ rest) × ((0 < getD ns 0 0) × (getD ns 0 0 ≤ 16))
 unfolding scanName
 name-taken t ns rest e =
-    let q = taken-else (eqb (opOf 15 t) 0) _ _ _ _ e in
-    let z = eqb-false (opOf 15 t) 0 (q .0) in
-    let p : 0 < opOf 15 t = positive (opOf 15 t) z in
-    let o = opOf-begins 15 t p in
-    (rw (← (q .1)) refl, rw (← (q .1), ← (q .2)) (begins-split (nameOf (opOf 15 t)) t (o .0)), rw (← (q .1)) (p, o .1))
+    let q = taken-else (eqb (opOf 16 t) 0) _ _ _ _ e in
+    let z = eqb-false (opOf 16 t) 0 (q .0) in
+    let p : 0 < opOf 16 t = positive (opOf 16 t) z in
+    let o = opOf-begins 16 t p in
+    (rw (← (q .1)) refl, rw (← (q .1), ← (q .2)) (begins-split (nameOf (opOf 16 t)) t (o .0)), rw (← (q .1)) (p, o .1))
   where
     positive : (n : ℕ) → (n ≡ 0 → ⊥) → 0 < n
     positive n z = omega arith
@@ -160,10 +160,10 @@ number-back b w n u z k h =
     pick-true _ _ _ (numeric-digits b w n u z k)
     ∙ cc (number-digits b w n u z k h, drop-at (digits b w n) u w (length-digits b w n))
 
-name-back : (n : ℕ) (u : List ℕ) → 0 < n → n ≤ 15 → scanName (nameOf n ++ u) ≡ taken (n ∷ []) u
+name-back : (n : ℕ) (u : List ℕ) → 0 < n → n ≤ 16 → scanName (nameOf n ++ u) ≡ taken (n ∷ []) u
 unfolding scanName
 name-back n u z h =
-    let o : opOf 15 (nameOf n ++ u) ≡ n = opOf-name 15 n u z h (omega arith) in
+    let o : opOf 16 (nameOf n ++ u) ≡ n = opOf-name 16 n u z h (omega arith) in
     rw o (pick-false _ _ _ (ne-eqb n 0 (λ e. omega arith)) ∙ cc (drop-append-seam (nameOf n) u))
 
 pub item-back : (i : Item) (ns u : List ℕ) → takes i ≤ length ns → Fit i (getD ns 0 0)

@@ -43,7 +43,7 @@ number b (suc w) t = number b w t * b + digit (getD t w 0)
 
 -- ---- op names
 
--- "Fifteen operations, numbered": a name with the space that ends it, so that none begins another.
+-- "Fifteen operations, numbered", and document 02's STORE: a name with the space that ends it, so that none begins another.
 unfoldable pub names : List (List ℕ)
 names =
     [] ∷ bytes "LOAD " ∷ bytes "LOADI " ∷ bytes "LUT " ∷ bytes "SWAP " ∷ bytes "CONFIG " ∷ bytes "IADD " ∷ bytes "ABS " ∷ bytes "AND "
@@ -54,6 +54,7 @@ names =
     ∷ bytes "EXEXP "
     ∷ bytes "EXMAN "
     ∷ bytes "NOP "
+    ∷ bytes "STORE "
     ∷ []
 
 unfoldable pub nameOf : ℕ → List ℕ
@@ -119,7 +120,7 @@ scanNumber b w t = pick (numeric b w t) (taken (number b w t ∷ []) (drop w t))
 
 -- "An unknown op name is 10": no name, not in form.
 unfoldable pub scanName : List ℕ → Scan
-scanName t = pick (eqb (opOf 15 t) 0) (faulty 0) (taken (opOf 15 t ∷ []) (drop (length (nameOf (opOf 15 t))) t))
+scanName t = pick (eqb (opOf 16 t) 0) (faulty 0) (taken (opOf 16 t ∷ []) (drop (length (nameOf (opOf 16 t))) t))
 
 unfoldable pub scanItem : Item → List ℕ → Scan
 scanItem (lit c) t = scanByte c t

@@ -12,10 +12,10 @@ ghost use Rattle.listing.specs.Forms as Forms;
 ghost use Rattle.listing.specs.PrivatePlaces as Places;
 
 // The op names, by op from 0, which has none; each ends with its first space.
-const NAMES: [u8; 112] =
-    *b"       LOAD   LOADI  LUT    SWAP   CONFIG IADD   ABS    AND    OR     XOR    NOT    LZ     EXEXP  EXMAN  NOP    ";
+const NAMES: [u8; 119] =
+    *b"       LOAD   LOADI  LUT    SWAP   CONFIG IADD   ABS    AND    OR     XOR    NOT    LZ     EXEXP  EXMAN  NOP    STORE  ";
 
-const NAME_LENGTHS: [usize; 16] = [0, 5, 6, 4, 5, 7, 5, 4, 4, 3, 4, 4, 3, 6, 6, 4];
+const NAME_LENGTHS: [usize; 17] = [0, 5, 6, 4, 5, 7, 5, 4, 4, 3, 4, 4, 3, 6, 6, 4, 6];
 
 // A byte of a text, 0 past its end.
 pub(crate) fn byte_at(text: &[u8], at: usize) -> u8
@@ -92,7 +92,7 @@ fn number(text: &[u8], at: usize, base: u32, w: usize) -> Got
 
 // Whether the name of `op` stands at a position.
 fn named(text: &[u8], at: usize, op: usize) -> bool
-    requires { ⌜ (at ≤ length (now text)) × (op < 16) ⌝ }
+    requires { ⌜ (at ≤ length (now text)) × (op < 17) ⌝ }
     ensures { λ r. ⌜ r ≡ Forms.begins (Forms.nameOf op) (drop at (now (text .entry))) ⌝ }
 {
     let n = NAME_LENGTHS[op];
@@ -109,9 +109,9 @@ fn named(text: &[u8], at: usize, op: usize) -> bool
 // The op whose name stands at a position, 0 for none.
 fn op_at(text: &[u8], at: usize) -> usize
     requires { ⌜ at ≤ length (now text) ⌝ }
-    ensures { λ r. ⌜ (r ≡ Forms.opOf 15 (drop at (now (text .entry)))) × (r ≤ 15) ⌝ }
+    ensures { λ r. ⌜ (r ≡ Forms.opOf 16 (drop at (now (text .entry)))) × (r ≤ 16) ⌝ }
 {
-    let mut op: usize = 15;
+    let mut op: usize = 16;
     while op > 0 {
         if named(text, at, op) {
             return op;
@@ -254,7 +254,7 @@ pub(crate) fn put_number(out: &mut [u8], at: usize, base: u32, w: usize, n: u32)
 
 // The name of `op`.
 fn put_name(out: &mut [u8], at: usize, op: usize) -> usize
-    requires { ⌜ (at + 7 ≤ length (now out)) × (op < 16) ⌝ }
+    requires { ⌜ (at + 7 ≤ length (now out)) × (op < 17) ⌝ }
     ensures { λ r. ⌜ Places.Grown at r (now (out .entry)) (now (out .exit)) (Forms.nameOf op) ⌝ }
 {
     let n = NAME_LENGTHS[op];
@@ -266,12 +266,12 @@ fn put_name(out: &mut [u8], at: usize, op: usize) -> usize
     at + n
 }
 
-// The name of any number, of which those past 15 have none.
+// The name of any number, of which those past 16 have none.
 fn put_op(out: &mut [u8], at: usize, op: u32) -> usize
     requires { ⌜ at + 7 ≤ length (now out) ⌝ }
     ensures { λ r. ⌜ Places.Grown at r (now (out .entry)) (now (out .exit)) (Forms.nameOf op) ⌝ }
 {
-    if op < 16 {
+    if op < 17 {
         return put_name(out, at, op as usize);
     }
     at

@@ -14,8 +14,8 @@ fn run_reported(s: Settings, list: &[u32], room: &mut [u8]) -> Reporting
 {
     let before = [0u32; 768];
     let mut image = [0u32; 768];
-    let dst = [0u16; 16384];
-    let o = run(s, &mut image, &dst, list);
+    let mut dst = [0u16; 16384];
+    let o = run(s, &mut image, &mut dst, list);
     report(o.answer, o.steps, o.place, o.cursor, &before, &image, room)
 }
 

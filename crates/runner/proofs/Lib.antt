@@ -9,8 +9,10 @@ pub mod Quiet
 pub mod Made
 pub mod Operands
 pub mod ComputeRows
+pub mod Dsts
 pub mod LoadRows
 pub mod SwapRows
+pub mod StoreRows
 pub mod LutRows
 pub mod ConfigRows
 pub mod Accepted

@@ -10,8 +10,9 @@ use lib.Dec.{eqb, ltb}
 use borrow.Author.Tests.{lt-ltb, le-ltb, ne-eqb}
 use Rattle.lane.specs.declared.Insn.{Insn}
 use Rattle.lane.specs.Words.{pick, bit, flagOf, Lane, Stores, build, laneConfig, enabled, after}
-use Rattle.lane.specs.Load.{rowOf, placeOf, loaded, loads, captures, loadWith, load, loadi, immediate}
+use Rattle.lane.specs.Load.{placeOf, loaded, loads, captures, loadWith, load, loadi, immediate}
 use Rattle.lane.proofs.Cases.{pick-false, pick-lt, has-one}
+use Rattle.lane.proofs.Places.{even-place, odd-place, place-is}
 use Rattle.lane.proofs.Stores.{getD-build, upd-other}
 use Rattle.runner.specs.Image.{laneIn}
 use Rattle.runner.specs.Run.{evenCell, oddCell}
@@ -87,20 +88,15 @@ cell-made dst both odds at n v odd l eb eo p =
     from : (k : ℕ) → k < 64 → getD both k 0 ≡ getD dst (at + k) 0
     from k h = ap (λ (x : List ℕ). getD x k 0) eb ∙ getD-build 64 (λ k. getD dst (at + k) 0) k h
 
--- "row times 16 plus column", of a lane's even cell
-pub pair-place : (a L : ℕ) → rowOf a L * 16 + 2 * (L % 8) ≡ 64 * (a / 4) + 2 * L
-pair-place a L = omega arith
-
+-- a lane's pair of cells
 pub cell-is : (dst : List ℕ) (a L : ℕ) (odd : Bool) → cellOf dst (64 * (a / 4)) odd L ≡ pick odd (oddCell dst a L) (evenCell dst a L)
-cell-is dst a L odd =
-    ap (λ (k : ℕ). pick odd (getD dst k 0) (getD dst (64 * (a / 4) + 2 * L) 0)) (next a L)
-    ∙ ap (λ (k : ℕ). pick odd (oddCell dst a L) (getD dst k 0)) (sym (pair-place a L))
+cell-is dst a L odd = cc (next-to ∙ odd-place a L, even-place a L)
   where
-    next : (a L : ℕ) → 64 * (a / 4) + (2 * L + 1) ≡ rowOf a L * 16 + (2 * (L % 8) + 1)
-    next a L = omega (arith, pair-place a L)
+    next-to : 64 * (a / 4) + (2 * L + 1) ≡ 64 * (a / 4) + 2 * L + 1
+    next-to = omega arith
 
-pub place-is : (a L : ℕ) (odd : Bool) → 64 * (a / 4) + 2 * L + full odd % 2 ≡ placeOf a L odd
-place-is a L odd = omega (arith, pair-place a L, full-bit odd)
+place-read-is : (a L : ℕ) (odd : Bool) → 64 * (a / 4) + 2 * L + full odd % 2 ≡ placeOf a L odd
+place-read-is a L odd = ap (λ (n : ℕ). 64 * (a / 4) + 2 * L + n) (full-bit odd) ∙ sym (place-is a L odd)
 
 -- ---- a turn of a loop that stores under a mask
 
@@ -205,7 +201,7 @@ module _ (image x dst got odds : List ℕ) (a vd m : ℕ) (h : vd < 8) (small : 
 
   place-read : (L : ℕ) → L < 32 → 64 * (a / 4) + 2 * L + getD odds L 0 % 2 ≡ placeOf a L (oddAt image a L)
   unfolding oddIn
-  place-read L l = ap (λ (x : ℕ). 64 * (a / 4) + 2 * L + x % 2) (operand odds _ eo L l) ∙ place-is a L (oddAt image a L)
+  place-read L l = ap (λ (x : ℕ). 64 * (a / 4) + 2 * L + x % 2) (operand odds _ eo L l) ∙ place-read-is a L (oddAt image a L)
 
   pub captured : (y : List ℕ) → y ≡ storing x (λ L. capturedOnly vd (64 * (a / 4) + 2 * L + getD odds L 0 % 2) (laneIn x L))
       → y ≡ storing image (loadedAt image dst a vd m)

@@ -61,28 +61,28 @@ within-ones w v x hw hx e = rw one-mul at (div-lt-iff-lt-mul (pow-pos w) .0 (sma
 
 -- ---- the table's fields
 
--- how many ones each limit has
+-- how many ones each limit has; past the last op there are none, and the limits are 0
 abbrev immWidths : List ℕ
-immWidths = 0 ∷ 10 ∷ 16 ∷ 0 ∷ 0 ∷ 16 ∷ 12 ∷ 0 ∷ 0 ∷ 0 ∷ 0 ∷ 0 ∷ 0 ∷ 0 ∷ 0 ∷ 0 ∷ []
+immWidths = 0 ∷ 10 ∷ 16 ∷ 0 ∷ 0 ∷ 16 ∷ 12 ∷ 0 ∷ 0 ∷ 0 ∷ 0 ∷ 0 ∷ 0 ∷ 0 ∷ 0 ∷ 0 ∷ 10 ∷ []
 
 abbrev vbWidths : List ℕ
-vbWidths = 0 ∷ 2 ∷ 0 ∷ 0 ∷ 0 ∷ 0 ∷ 0 ∷ 0 ∷ 4 ∷ 4 ∷ 0 ∷ 0 ∷ 0 ∷ 0 ∷ 0 ∷ 0 ∷ []
+vbWidths = 0 ∷ 2 ∷ 0 ∷ 0 ∷ 0 ∷ 0 ∷ 0 ∷ 0 ∷ 4 ∷ 4 ∷ 0 ∷ 0 ∷ 0 ∷ 0 ∷ 0 ∷ 0 ∷ 2 ∷ []
 
 abbrev vcWidths : List ℕ
-vcWidths = 0 ∷ 0 ∷ 0 ∷ 0 ∷ 4 ∷ 0 ∷ 4 ∷ 4 ∷ 4 ∷ 4 ∷ 4 ∷ 4 ∷ 4 ∷ 4 ∷ 4 ∷ 0 ∷ []
+vcWidths = 0 ∷ 0 ∷ 0 ∷ 0 ∷ 4 ∷ 0 ∷ 4 ∷ 4 ∷ 4 ∷ 4 ∷ 4 ∷ 4 ∷ 4 ∷ 4 ∷ 4 ∷ 0 ∷ 0 ∷ []
 
 abbrev vdWidths : List ℕ
-vdWidths = 0 ∷ 4 ∷ 4 ∷ 4 ∷ 4 ∷ 4 ∷ 4 ∷ 4 ∷ 4 ∷ 4 ∷ 4 ∷ 4 ∷ 4 ∷ 4 ∷ 4 ∷ 0 ∷ []
+vdWidths = 0 ∷ 4 ∷ 4 ∷ 4 ∷ 4 ∷ 4 ∷ 4 ∷ 4 ∷ 4 ∷ 4 ∷ 4 ∷ 4 ∷ 4 ∷ 4 ∷ 4 ∷ 0 ∷ 4 ∷ []
 
 abbrev ones : List ℕ → List ℕ → ℕ → Bool
 ones limits widths k =
     eqb (32 - getD widths k 0 + getD widths k 0) 32
     && (eqb (past (getD limits k 0)) (2 ^ 32 - 2 ^ getD widths k 0) && eqb (getD limits k 0 + 1) (2 ^ getD widths k 0))
 
-field-fits : (limits widths : List ℕ) (k x : ℕ) → allBelow 16 (ones limits widths) ≡ true → k < 16 → x < 2 ^ 32 → bitAnd x (past (getD limits k 0)) ≡ 0
+field-fits : (limits widths : List ℕ) (k x : ℕ) → allBelow 32 (ones limits widths) ≡ true → k < 32 → x < 2 ^ 32 → bitAnd x (past (getD limits k 0)) ≡ 0
     → leb x (getD limits k 0) ≡ true
 field-fits limits widths k x t l h e =
-    let row = below-all 16 (ones limits widths) k t l in
+    let row = below-all 32 (ones limits widths) k t l in
     let w = getD widths k 0 in
     let a = eqb-true (32 - w + w) 32 (and-left (eqb (32 - w + w) 32) _ row) in
     let bc = and-right (eqb (32 - w + w) 32) _ row in
@@ -97,7 +97,7 @@ allowed k j =
     not (bit (getD plainMods k 0) j)
     || (opKnown k && (modAllowed k (j % 16) && (not (wideLoad k (j % 16)) && (ltb j 16 || (not (eqb k 8 || eqb k 9) || eqb (j % 16) 1)))))
 
-all-allowed : allBelow 16 (λ k. allBelow 32 (allowed k)) ≡ true
+all-allowed : allBelow 32 (λ k. allBelow 32 (allowed k)) ≡ true
 all-allowed = refl
 
 or-left : (a b : Bool) → a ≡ true → (not a || b) ≡ true → b ≡ true
@@ -110,12 +110,12 @@ record Allowed (op vb m : ℕ) : Type 0 where
   narrow : not (wideLoad op m) ≡ true
   tied : vbTied op vb m ≡ true
 
-allowed-is : (op vb m : ℕ) → op < 16 → m < 16 → bit (getD plainMods op 0) (pick (eqb vb 0) m (m + 16)) ≡ true → Allowed op vb m
+allowed-is : (op vb m : ℕ) → op < 32 → m < 16 → bit (getD plainMods op 0) (pick (eqb vb 0) m (m + 16)) ≡ true → Allowed op vb m
 allowed-is op vb m ho hm e = by (eqb vb 0) refl
   where
     at : (j : ℕ) → j < 32 → bit (getD plainMods op 0) j ≡ true
         → (opKnown op && (modAllowed op (j % 16) && (not (wideLoad op (j % 16)) && (ltb j 16 || (not (eqb op 8 || eqb op 9) || eqb (j % 16) 1))))) ≡ true
-    at j l q = or-left (bit (getD plainMods op 0) j) _ q (below-all 32 (allowed op) j (below-all 16 (λ k. allBelow 32 (allowed k)) op all-allowed ho) l)
+    at j l q = or-left (bit (getD plainMods op 0) j) _ q (below-all 32 (allowed op) j (below-all 32 (λ k. allBelow 32 (allowed k)) op all-allowed ho) l)
 
     made : (j : ℕ) → j % 16 ≡ m
         → (opKnown op && (modAllowed op (j % 16) && (not (wideLoad op (j % 16)) && (ltb j 16 || (not (eqb op 8 || eqb op 9) || eqb (j % 16) 1))))) ≡ true
@@ -184,24 +184,24 @@ place-is m vb h = by (eqb vb 0)
 pub plain-good : (i : Insn) → Words32 i → plain i ≡ true → 0 ≡ instructionAnswer true i
 unfolding noneOver overOf over
 plain-good i h e =
-    let z = eqb-true _ 0 (and-left (noneOver (overOf (i .op % 16)) i) (bit (overOf (i .op % 16) .mods) (modPlace (i .md) (i .vb))) e) in
+    let z = eqb-true _ 0 (and-left (noneOver (overOf (i .op % 32)) i) (bit (overOf (i .op % 32) .mods) (modPlace (i .md) (i .vb))) e) in
     let p = no-or _ _ z in
     let q = no-or _ _ (p .0) in
-    let l = no-pair (i .imm) (past (getD immLimits (i .op % 16) 0)) (i .op) (past 15) (h .op) (past-lt 15) (q .0) in
-    let m = no-pair (i .vc) (past (getD vcLimits (i .op % 16) 0)) (i .vb) (past (getD vbLimits (i .op % 16) 0)) (h .vb) (past-lt _) (q .1) in
-    let r = no-pair (i .md) (past 15) (i .vd) (past (getD vdLimits (i .op % 16) 0)) (h .vd) (past-lt _) (p .1) in
-    let op16 : i .op < 16 = within-ones 4 28 (i .op) refl (h .op) (l .1) in
+    let l = no-pair (i .imm) (past (getD immLimits (i .op % 32) 0)) (i .op) (past 31) (h .op) (past-lt 31) (q .0) in
+    let m = no-pair (i .vc) (past (getD vcLimits (i .op % 32) 0)) (i .vb) (past (getD vbLimits (i .op % 32) 0)) (h .vb) (past-lt _) (q .1) in
+    let r = no-pair (i .md) (past 15) (i .vd) (past (getD vdLimits (i .op % 32) 0)) (h .vd) (past-lt _) (p .1) in
+    let op32 : i .op < 32 = within-ones 5 27 (i .op) refl (h .op) (l .1) in
     let md16 : i .md < 16 = within-ones 4 28 (i .md) refl (h .md) (r .0) in
-    let k16 : i .op % 16 < 16 = omega arith in
-    let ko : i .op % 16 ≡ i .op = omega arith in
+    let k32 : i .op % 32 < 32 = omega arith in
+    let ko : i .op % 32 ≡ i .op = omega arith in
     facts-good i
-    (allowed-is (i .op) (i .vb) (i .md) op16 md16
+    (allowed-is (i .op) (i .vb) (i .md) op32 md16
     (sym (ap (λ (x : ℕ). bit (getD plainMods x 0) (pick (eqb (i .vb) 0) (i .md) (i .md + 16))) ko)
-    ∙ ap (λ (x : ℕ). bit (getD plainMods (i .op % 16) 0) x) (place-is (i .md) (i .vb) md16) ∙ and-right (noneOver (overOf (i .op % 16)) i) (bit (overOf (i .op % 16) .mods) (modPlace (i .md) (i .vb))) e))
-    (sym (ap (λ (x : ℕ). leb (i .imm) (getD immLimits x 0)) ko) ∙ field-fits immLimits immWidths (i .op % 16) (i .imm) refl k16 (h .imm) (l .0))
-    (sym (ap (λ (x : ℕ). leb (i .vb) (getD vbLimits x 0)) ko) ∙ field-fits vbLimits vbWidths (i .op % 16) (i .vb) refl k16 (h .vb) (m .1))
-    (sym (ap (λ (x : ℕ). leb (i .vc) (getD vcLimits x 0)) ko) ∙ field-fits vcLimits vcWidths (i .op % 16) (i .vc) refl k16 (h .vc) (m .0))
-    (sym (ap (λ (x : ℕ). leb (i .vd) (getD vdLimits x 0)) ko) ∙ field-fits vdLimits vdWidths (i .op % 16) (i .vd) refl k16 (h .vd) (r .1))
+    ∙ ap (λ (x : ℕ). bit (getD plainMods (i .op % 32) 0) x) (place-is (i .md) (i .vb) md16) ∙ and-right (noneOver (overOf (i .op % 32)) i) (bit (overOf (i .op % 32) .mods) (modPlace (i .md) (i .vb))) e))
+    (sym (ap (λ (x : ℕ). leb (i .imm) (getD immLimits x 0)) ko) ∙ field-fits immLimits immWidths (i .op % 32) (i .imm) refl k32 (h .imm) (l .0))
+    (sym (ap (λ (x : ℕ). leb (i .vb) (getD vbLimits x 0)) ko) ∙ field-fits vbLimits vbWidths (i .op % 32) (i .vb) refl k32 (h .vb) (m .1))
+    (sym (ap (λ (x : ℕ). leb (i .vc) (getD vcLimits x 0)) ko) ∙ field-fits vcLimits vcWidths (i .op % 32) (i .vc) refl k32 (h .vc) (m .0))
+    (sym (ap (λ (x : ℕ). leb (i .vd) (getD vdLimits x 0)) ko) ∙ field-fits vdLimits vdWidths (i .op % 32) (i .vd) refl k32 (h .vd) (r .1))
 
 -- ---- the union of the lanes' words
 

@@ -1,29 +1,32 @@
 -- One instruction over all lanes, the steps through a list, and a run. Assumes nothing.
 use mathlib.Core.Path.{_≡_, refl, sym, ap, _∙_}
-use Prim.Native.Nat.{ℕ, zero, suc, _+_, _%_, _≤_}
+use Prim.Native.Nat.{ℕ, _+_, _%_, _≤_}
 use native.Mathlib.Numerals.{add-one}
-use mathlib.Core.Bool.{true, false}
+use native.Mathlib.Omega.{arith}
+use mathlib.Core.Bool.{Bool, true, false, _||_, false≢true}
 use mathlib.Core.List.{List, []}
 use lib.ListN.{length}
 use lib.Dec.{eqb}
-use borrow.Author.Tests.{eq-eqb, ne-eqb}
+use borrow.Author.Tests.{eq-eqb, ne-eqb, eqb-true, eqb-false}
 use Rattle.lane.specs.declared.Settings.{Settings}
 use Rattle.lane.specs.declared.Insn.{Insn}
 use Rattle.lane.specs.Words.{pick, bit, Lane, Stores}
-use Rattle.lane.specs.Load.{address, stride, nextCursor, load}
+use Rattle.lane.specs.Load.{address, nextCursor, meetsDst, load}
+use Rattle.lane.specs.Store.{store}
 use Rattle.lane.specs.Compute.{valueWord, valuedWith, valued}
-use Rattle.lane.specs.Rule.{lanewise, storesOf}
+use Rattle.lane.specs.Rule.{lanewise, storesOf, cellsOf}
 use Rattle.lane.proofs.Cases.{pick-true, pick-false}
 use Rattle.runner.specs.declared.Found.{Found}
 use Rattle.runner.specs.Image.{laneIn}
 use Rattle.runner.specs.Checks.{insnAt, countOf, runAnswer}
-use Rattle.runner.specs.Run.{Machine, evenCell, oddCell, laneAfter, imageAt, imageAfter, cursorAfter, stepped, steps, finish, outcomeOf, runImage, Ran}
+use Rattle.runner.specs.Run.{Machine, evenCell, oddCell, withCells, cellsAfter, laneAfter, imageAt, imageAfter, dstAt, dstAfter, cursorAfter, stepped, steps, finish, outcomeOf, runImage, runDst, Ran}
 use Rattle.runner.specs.PrivateRows.{storing, Enabled}
-use Rattle.runner.specs.PrivateSteps.{Stored, Left, from}
+use Rattle.runner.specs.PrivateSteps.{Stored, Met, Left, from}
 use Rattle.runner.proofs.Accepted.{accepted, given-short}
 use Rattle.runner.proofs.Enabled.{Quiet, quiet-enabled}
 use Rattle.runner.proofs.Quiet.{quiet-load}
 use Rattle.runner.proofs.Lanes.{storing-same, storing-none, length-lanes}
+use Rattle.runner.proofs.Dsts.{length-cells, cells-same, dst-kept}
 
 -- ---- one instruction
 
@@ -35,10 +38,18 @@ image-at-is : (s : Settings) (i : Insn) (a : ℕ) (image dst : List ℕ) → sto
 unfolding imageAt laneAfter storing
 image-at-is s i a image dst = refl
 
-load-stores : (op : ℕ) (s : Settings) (a : ℕ) (i : Insn) (L : ℕ) (head : Lane) (even odd : ℕ) (own : Lane) → op ≡ 1
+pub load-stores : (op : ℕ) (s : Settings) (a : ℕ) (i : Insn) (L : ℕ) (head : Lane) (even odd : ℕ) (own : Lane) → op ≡ 1
     → load (s .srcb) a i L (bit (head 12) 5) even odd own ≡ storesOf op s a i L head even odd own
 unfolding storesOf lanewise pick
 load-stores op s a i L head even odd own e = simp e
+
+-- an operation that does not meet Dst is neither LOAD nor STORE
+neither : (s t : Bool) → (s || t) ≡ false → (s ≡ false) × (t ≡ false)
+neither true t h = absurd (false≢true (sym h))
+neither false t h = (refl, h)
+
+pub meets-not : (op : ℕ) → meetsDst op ≡ false → (eqb op 1 ≡ false) × (eqb op 16 ≡ false)
+meets-not op h = neither (eqb op 1) (eqb op 16) h
 
 -- an operation's image is the instruction's if its stores are, and the row of enabled lanes goes with it
 pub stored-arm : (s : Settings) (i : Insn) (image x go : List ℕ) (made : ℕ → Stores) → Enabled go x → x ≡ storing image made
@@ -70,28 +81,39 @@ pub valued-rest : (op : ℕ) (i : Insn) (L : ℕ) (own : Lane) → (op ≡ 7 →
 unfolding valued valuedWith valueWord pick
 valued-rest op i L own a b c d e = simp (ne-eqb op 7 a, ne-eqb op 8 b, ne-eqb op 9 c, ne-eqb op 10 d, ne-eqb op 11 e)
 
--- the cursor, and the address that it gives
-pub stored-left : (s : Settings) (i : Insn) (cursor : ℕ) (image dst x go : List ℕ) → (i .op ≡ 1 → ⊥) → Stored s i image x go
-    → Left s i cursor image dst cursor x go
-unfolding imageAfter nextCursor
-stored-left s i cursor image dst x go n h =
+-- an instruction that does not meet Dst leaves the cursor, and Dst
+pub stored-left : (s : Settings) (i : Insn) (cursor : ℕ) (image dst x go : List ℕ) → meetsDst (i .op) ≡ false → length dst ≡ 16384 → Stored s i image x go
+    → Left s i cursor image dst cursor x dst go
+unfolding imageAfter dstAfter nextCursor
+stored-left s i cursor image dst x go n e h =
     record {
-      cursor-is = sym (pick-false (eqb (i .op) 1) _ cursor (ne-eqb (i .op) 1 n));
+      cursor-is = sym (pick-false (meetsDst (i .op)) _ cursor n);
       image-is = h .image-is (address (i .imm) (s .offset) cursor) dst;
+      dst-is = dst-kept i (address (i .imm) (s .offset) cursor) image dst (eqb-false (i .op) 16 (meets-not (i .op) n .1)) e;
       enabled-is = h .enabled-is;
     }
 
-pub load-left : (s : Settings) (i : Insn) (cursor a next : ℕ) (image dst x go : List ℕ) → i .op ≡ 1 → a ≡ address (i .imm) (s .offset) cursor
-    → next ≡ nextCursor 1 cursor (stride s (i .vb)) → Enabled go image
-    → x ≡ storing image (λ L. load (s .srcb) a i L (bit (laneIn image (L % 8) 12) 5) (evenCell dst a L) (oddCell dst a L) (laneIn image L))
-    → Left s i cursor image dst next x go
-unfolding imageAfter nextCursor
-load-left s i cursor a next image dst x go o ea en g p =
+-- one that meets it does so at the address that the cursor gives
+pub met-left : (s : Settings) (i : Insn) (cursor a next : ℕ) (image dst x y go : List ℕ) → a ≡ address (i .imm) (s .offset) cursor
+    → next ≡ cursorAfter s i cursor → Met s i a image dst x y go
+    → Left s i cursor image dst next x y go
+unfolding imageAfter dstAfter
+met-left s i cursor a next image dst x y go ea en h =
     record {
-      cursor-is = en ∙ ap (λ (n : ℕ). nextCursor n cursor (stride s (i .vb))) (sym o);
-      image-is =
-          p ∙ storing-same image _ (storesAt s i a image dst) (λ L l. is-load L) ∙ image-at-is s i a image dst
-          ∙ ap (λ (x : ℕ). imageAt s i x image dst) ea;
+      cursor-is = en;
+      image-is = h .image-is ∙ ap (λ (x : ℕ). imageAt s i x image dst) ea;
+      dst-is = h .dst-is ∙ ap (λ (x : ℕ). dstAt i x image dst) ea;
+      enabled-is = h .enabled-is;
+    }
+
+-- LOAD leaves Dst
+pub load-met : (s : Settings) (i : Insn) (a : ℕ) (image dst x go : List ℕ) → i .op ≡ 1 → length dst ≡ 16384 → Enabled go image
+    → x ≡ storing image (λ L. load (s .srcb) a i L (bit (laneIn image (L % 8) 12) 5) (evenCell dst a L) (oddCell dst a L) (laneIn image L))
+    → Met s i a image dst x dst go
+load-met s i a image dst x go o e g p =
+    record {
+      image-is = p ∙ storing-same image _ (storesAt s i a image dst) (λ L l. is-load L) ∙ image-at-is s i a image dst;
+      dst-is = dst-kept i a image dst (λ z. one-other (i .op) o z) e;
       enabled-is = quiet-enabled go image x _ (λ L l. quiet-load (s .srcb) a i L _ _ _ (laneIn image L)) g p;
     }
   where
@@ -99,9 +121,45 @@ load-left s i cursor a next image dst x go o ea en g p =
         → load (s .srcb) a i L (bit (laneIn image (L % 8) 12) 5) (evenCell dst a L) (oddCell dst a L) (laneIn image L) ≡ storesAt s i a image dst L
     is-load L = load-stores (i .op) s a i L (laneIn image (L % 8)) (evenCell dst a L) (oddCell dst a L) (laneIn image L) o
 
+    one-other : (op : ℕ) → op ≡ 1 → op ≡ 16 → ⊥
+    one-other op p q = omega arith
+
+-- STORE leaves the image
+pub store-none : (op : ℕ) (s : Settings) (a : ℕ) (i : Insn) (L : ℕ) (head : Lane) (even odd : ℕ) (own : Lane) → op ≡ 16 → storesOf op s a i L head even odd own ≡ []
+unfolding storesOf lanewise pick
+store-none op s a i L head even odd own e = simp e
+
+pub store-cells : (op a : ℕ) (i : Insn) (L : ℕ) (exchanged : Bool) (even odd : ℕ) (own : Lane) → op ≡ 16
+    → store a i L exchanged even odd own ≡ cellsOf op a i L exchanged even odd own
+unfolding cellsOf
+store-cells op a i L exchanged even odd own e = sym (pick-true (eqb op 16) (store a i L exchanged even odd own) _ (eq-eqb op 16 e))
+
+-- of the two operations that meet Dst, the one that is no LOAD
+is-store : (op : ℕ) → meetsDst op ≡ true → (op ≡ 1 → ⊥) → op ≡ 16
+is-store op h n = eqb-true op 16 (sym (ap (λ (t : Bool). t || eqb op 16) (ne-eqb op 1 n)) ∙ h)
+
+pub store-met : (s : Settings) (i : Insn) (a : ℕ) (image dst x go : List ℕ) → meetsDst (i .op) ≡ true → (i .op ≡ 1 → ⊥) → length image ≡ 768 → Enabled go image
+    → x ≡ withCells a dst (λ L. store a i L (bit (laneIn image (L % 8) 12) 5) (evenCell dst a L) (oddCell dst a L) (laneIn image L))
+    → Met s i a image dst image x go
+unfolding dstAt cellsAfter
+store-met s i a image dst x go meets n e g p =
+    let o = is-store (i .op) meets n in
+    record {
+      image-is =
+          sym (storing-none image (storesAt s i a image dst) e (λ L l. store-none (i .op) s a i L _ _ _ (laneIn image L) o))
+          ∙ image-at-is s i a image dst;
+      dst-is = p ∙ cells-same a dst _ (cellsAfter i a image dst) (λ L l. store-cells (i .op) a i L _ _ _ (laneIn image L) o);
+      enabled-is = g;
+    }
+
 pub length-after : (s : Settings) (i : Insn) (cursor : ℕ) (image dst : List ℕ) → length (imageAfter s i cursor image dst) ≡ 768
 unfolding imageAfter imageAt
 length-after s i cursor image dst = length-lanes (laneAfter s i (address (i .imm) (s .offset) cursor) image dst)
+
+pub length-dst-after : (s : Settings) (i : Insn) (cursor : ℕ) (image dst : List ℕ) → length (dstAfter s i cursor image dst) ≡ 16384
+unfolding dstAfter dstAt
+length-dst-after s i cursor image dst =
+    length-cells (address (i .imm) (s .offset) cursor) dst (cellsAfter i (address (i .imm) (s .offset) cursor) image dst)
 
 -- ---- the steps through a list
 
@@ -111,53 +169,49 @@ starting cursor image dst = record { image = image; dst = dst; cursor = cursor }
 abbrev pub begin : Settings → List ℕ → List ℕ → Machine
 begin s image dst = starting (s .cursor) image dst
 
-pub steps-dst : (s : Settings) (list : List ℕ) (n : ℕ) (m : Machine) → steps s list n m .dst ≡ m .dst
-unfolding steps stepped
-steps-dst s list zero m = refl
-steps-dst s list (suc n) m = steps-dst s list n m
-
 -- after k instructions
-pub record Reached (s : Settings) (list dst start : List ℕ) (first k cursor : ℕ) (image go : List ℕ) : Type 0 where
-  pub cursor-is : cursor ≡ steps s list k (starting first start dst) .cursor
-  pub image-is : image ≡ steps s list k (starting first start dst) .image
+pub record Reached (s : Settings) (list start-dst start : List ℕ) (first k cursor : ℕ) (image dst go : List ℕ) : Type 0 where
+  pub cursor-is : cursor ≡ steps s list k (starting first start start-dst) .cursor
+  pub image-is : image ≡ steps s list k (starting first start start-dst) .image
+  pub dst-is : dst ≡ steps s list k (starting first start start-dst) .dst
   pub enabled-is : Enabled go image
   pub long : length image ≡ 768
+  pub dst-long : length dst ≡ 16384
 
-pub reached-start : (s : Settings) (list dst start : List ℕ) (first : ℕ) (go : List ℕ) → length start ≡ 768 → Enabled go start
-    → Reached s list dst start first 0 first start go
+pub reached-start : (s : Settings) (list dst start : List ℕ) (first : ℕ) (go : List ℕ) → length start ≡ 768 → length dst ≡ 16384 → Enabled go start
+    → Reached s list dst start first 0 first start dst go
 unfolding steps
-reached-start s list dst start first go e g = record { cursor-is = refl; image-is = refl; enabled-is = g; long = e }
+reached-start s list dst start first go e f g =
+    record { cursor-is = refl; image-is = refl; dst-is = refl; enabled-is = g; long = e; dst-long = f }
 
-pub reached-more : (s : Settings) (list dst start : List ℕ) (first k cursor : ℕ) (image go : List ℕ) (i : Insn) (cursor′ : ℕ) (image′ go′ : List ℕ)
-    → Reached s list dst start first k cursor image go
+pub reached-more : (s : Settings) (list start-dst start : List ℕ) (first k cursor : ℕ) (image dst go : List ℕ) (i : Insn) (cursor′ : ℕ) (image′ dst′ go′ : List ℕ)
+    → Reached s list start-dst start first k cursor image dst go
     → i ≡ insnAt list k
-    → Left s i cursor image dst cursor′ image′ go′
-    → Reached s list dst start first (k + 1) cursor′ image′ go′
+    → Left s i cursor image dst cursor′ image′ dst′ go′
+    → Reached s list start-dst start first (k + 1) cursor′ image′ dst′ go′
 unfolding steps stepped
-reached-more s list dst start first k cursor image go i cursor′ image′ go′ h e m =
+reached-more s list start-dst start first k cursor image dst go i cursor′ image′ dst′ go′ h e m =
+    let next = ap (λ (n : ℕ). steps s list n (starting first start start-dst)) (sym (add-one k)) in
     record {
-      cursor-is =
-          m .cursor-is ∙ ap (λ (x : Insn). cursorAfter s x cursor) e ∙ ap (λ (x : ℕ). cursorAfter s (insnAt list k) x) (h .cursor-is)
-          ∙ ap (λ (n : ℕ). steps s list n (starting first start dst) .cursor) (sym (add-one k));
-      image-is =
-          m .image-is ∙ ap (λ (x : Insn). imageAfter s x cursor image dst) e
-          ∙ ap (λ (x : ℕ). imageAfter s (insnAt list k) x image dst) (h .cursor-is)
-          ∙ ap (λ (x : List ℕ). imageAfter s (insnAt list k) (steps s list k (starting first start dst) .cursor) x dst) (h .image-is)
-          ∙ ap (λ (x : List ℕ). imageAfter s (insnAt list k) (steps s list k (starting first start dst) .cursor) (steps s list k (starting first start dst) .image) x)
-          (sym (steps-dst s list k (starting first start dst)))
-          ∙ ap (λ (n : ℕ). steps s list n (starting first start dst) .image) (sym (add-one k));
+      cursor-is = m .cursor-is ∙ cc (e, h .cursor-is) ∙ ap (λ (x : Machine). x .cursor) next;
+      image-is = m .image-is ∙ cc (e, h .cursor-is, h .image-is, h .dst-is) ∙ ap (λ (x : Machine). x .image) next;
+      dst-is = m .dst-is ∙ cc (e, h .cursor-is, h .image-is, h .dst-is) ∙ ap (λ (x : Machine). x .dst) next;
       enabled-is = m .enabled-is;
       long = ap length (m .image-is) ∙ length-after s i cursor image dst;
+      dst-long = ap length (m .dst-is) ∙ length-dst-after s i cursor image dst;
     }
 
 -- at the end of the list
-pub reached-end : (s : Settings) (list dst start : List ℕ) (first k cursor : ℕ) (image go : List ℕ) → Reached s list dst start first k cursor image go
+pub reached-end : (s : Settings) (list start-dst start : List ℕ) (first k cursor : ℕ) (image dst go : List ℕ)
+    → Reached s list start-dst start first k cursor image dst go
     → k ≡ countOf list
-    → (cursor ≡ from s first start dst list .cursor) × (image ≡ from s first start dst list .image)
-reached-end s list dst start first k cursor image go h e = (
-  h .cursor-is ∙ ap (λ (n : ℕ). steps s list n (starting first start dst) .cursor) e,
-  h .image-is ∙ ap (λ (n : ℕ). steps s list n (starting first start dst) .image) e,
-)
+    → (cursor ≡ from s first start start-dst list .cursor)
+    × ((image ≡ from s first start start-dst list .image) × (dst ≡ from s first start start-dst list .dst))
+reached-end s list start-dst start first k cursor image dst go h e =
+    let all = ap (λ (n : ℕ). steps s list n (starting first start start-dst)) e in (
+      h .cursor-is ∙ ap (λ (x : Machine). x .cursor) all,
+      (h .image-is ∙ ap (λ (x : Machine). x .image) all, h .dst-is ∙ ap (λ (x : Machine). x .dst) all),
+    )
 
 -- ---- a run
 
@@ -173,24 +227,27 @@ module _ (s : Settings) (image dst list : List ℕ) (f : Found) (e : f ≡ runAn
       let a = accepted s image dst list (sym (ap (λ (x : Found). x .answer) e) ∙ h) .passed in (a .image-long, (a .dst-long, given-short s list (a .list-given)))
 
   -- done
-  pub ran-done : (cursor : ℕ) (x : List ℕ) → f .answer ≡ 0 → cursor ≡ finish s image dst list .cursor → x ≡ finish s image dst list .image
-      → Ran s image dst list (record { answer = 0; steps = countOf list; place = 0; cursor = cursor }) x
-  unfolding outcomeOf runImage
-  ran-done cursor x h p q =
+  pub ran-done : (cursor : ℕ) (x y : List ℕ) → f .answer ≡ 0 → cursor ≡ finish s image dst list .cursor → x ≡ finish s image dst list .image
+      → y ≡ finish s image dst list .dst
+      → Ran s image dst list (record { answer = 0; steps = countOf list; place = 0; cursor = cursor }) x y
+  unfolding outcomeOf runImage runDst
+  ran-done cursor x y h p q r =
       record {
         outcome-is =
             ap (λ (c : ℕ). record { answer = 0; steps = countOf list; place = 0; cursor = c }) p
             ∙ sym (pick-true (eqb (runAnswer s image dst list .answer) 0) _ _ (zero-is h));
         image-is = q ∙ sym (pick-true (eqb (runAnswer s image dst list .answer) 0) (finish s image dst list .image) image (zero-is h));
+        dst-is = r ∙ sym (pick-true (eqb (runAnswer s image dst list .answer) 0) (finish s image dst list .dst) dst (zero-is h));
       }
 
   -- refused
-  pub ran-refused : (f .answer ≡ 0 → ⊥) → Ran s image dst list (record { answer = f .answer; steps = 0; place = f .place; cursor = s .cursor }) image
-  unfolding outcomeOf runImage
+  pub ran-refused : (f .answer ≡ 0 → ⊥) → Ran s image dst list (record { answer = f .answer; steps = 0; place = f .place; cursor = s .cursor }) image dst
+  unfolding outcomeOf runImage runDst
   ran-refused h =
       record {
         outcome-is =
             ap (λ (x : Found). record { answer = x .answer; steps = 0; place = x .place; cursor = s .cursor }) e
             ∙ sym (pick-false (eqb (runAnswer s image dst list .answer) 0) _ _ (other-is h));
         image-is = sym (pick-false (eqb (runAnswer s image dst list .answer) 0) (finish s image dst list .image) image (other-is h));
+        dst-is = sym (pick-false (eqb (runAnswer s image dst list .answer) 0) (finish s image dst list .dst) dst (other-is h));
       }

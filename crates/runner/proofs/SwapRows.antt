@@ -90,7 +90,7 @@ rest-full true false = refl
 rest-full false true = refl
 rest-full false false = refl
 
-marks : (t : Bool) → eqb (full t) 0xFFFFFFFF ≡ t
+pub marks : (t : Bool) → eqb (full t) 0xFFFFFFFF ≡ t
 unfolding full pick
 marks true = refl
 marks false = refl

@@ -1,4 +1,4 @@
--- What a reader of crate `runner` has to believe: document 01's runs, over the lane rules of crate `lane`. Nothing here is proved.
+-- What a reader of crate `runner` has to believe: document 01's runs, over the lane rules of crate `lane`, with a Dst that document 02's STORE writes. Nothing here is proved.
 pub mod Image
 pub mod Checks
 pub mod Run
@@ -10,4 +10,5 @@ pub mod PrivateLoad
 pub mod PrivateSwap
 pub mod PrivateLut
 pub mod PrivateConfig
+pub mod PrivateStore
 pub mod PrivateSteps

@@ -19,16 +19,17 @@ pair a b = a + b * 2 ^ 32
 abbrev pub past : ℕ → ℕ
 past limit = 2 ^ 32 - 1 - limit
 
--- A row of the table: op and mod are below 16, the other fields within their limits.
+-- A row of the table: op is below 32 and mod below 16, the other fields within their limits.
 unfoldable pub over : ℕ → ℕ → ℕ → ℕ → ℕ → Over
 over imm vb vc vd mods =
-    record { left = pair (past 15) (past imm); middle = pair (past vb) (past vc); right = pair (past vd) (past 15); mods = mods }
+    record { left = pair (past 31) (past imm); middle = pair (past vb) (past vc); right = pair (past vd) (past 15); mods = mods }
 
 -- For each op, from op 0, the mods that draw no refusal: mod m as bit m where vb is 0, as bit 16 + m where it isn't.
 abbrev pub plainMods : List ℕ
 plainMods =
     0 ∷ 0xEBE7EBE7 ∷ 0x0500 ∷ 0x1111 ∷ 0xFFFF ∷ 0xFFFF ∷ 0xFFFF ∷ 0x0003 ∷ 0x20003 ∷ 0x20003 ∷ 0x0001 ∷ 0x0001 ∷ 0x5555 ∷ 0x0F0F ∷ 0x0003
     ∷ 0x0001
+    ∷ 0x02C402C4
     ∷ []
 
 unfoldable pub overOf : ℕ → Over
@@ -49,4 +50,4 @@ abbrev pub plainBy : Over → Insn → Bool
 plainBy o i = noneOver o i && bit (o .mods) (modPlace (i .md) (i .vb))
 
 abbrev pub plain : Insn → Bool
-plain i = plainBy (overOf (i .op % 16)) i
+plain i = plainBy (overOf (i .op % 32)) i

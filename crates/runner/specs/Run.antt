@@ -1,14 +1,16 @@
--- Document 01, "What the replay covers": one instruction over all lanes, the steps through a list, and a run.
-use Prim.Native.Nat.{ℕ, zero, suc, _+_, _*_, _%_}
+-- Document 01, "What the replay covers": one instruction over all lanes, the steps through a list, and a run. Document 02, M-101: "Dst is now written".
+use Prim.Native.Nat.{ℕ, zero, suc, _%_}
 use mathlib.Core.Path.{_≡_}
+use mathlib.Core.Bool.{true, false}
 use mathlib.Core.List.{List}
 use lib.ListN.{getD}
 use lib.Dec.{eqb}
 use Rattle.lane.specs.declared.Settings.{Settings}
 use Rattle.lane.specs.declared.Insn.{Insn}
-use Rattle.lane.specs.Words.{pick, Lane, after}
-use Rattle.lane.specs.Load.{address, stride, nextCursor, rowOf}
-use Rattle.lane.specs.Rule.{storesOf}
+use Rattle.lane.specs.declared.Cells.{Cells}
+use Rattle.lane.specs.Words.{pick, bit, Lane, laneConfig, build, after}
+use Rattle.lane.specs.Load.{address, stride, nextCursor, placeOf, isMet, ownerOf}
+use Rattle.lane.specs.Rule.{storesOf, cellsOf}
 use Rattle.runner.specs.declared.Outcome.{Outcome}
 use Rattle.runner.specs.Image.{laneIn, ofLanes, headOf}
 use Rattle.runner.specs.Checks.{insnAt, countOf, runAnswer}
@@ -21,10 +23,10 @@ pub record Machine : Type 0 where
 
 -- The two cells of lane L's row and column, at address a.
 abbrev pub evenCell : List ℕ → ℕ → ℕ → ℕ
-evenCell dst a L = getD dst (rowOf a L * 16 + 2 * (L % 8)) 0
+evenCell dst a L = getD dst (placeOf a L false) 0
 
 abbrev pub oddCell : List ℕ → ℕ → ℕ → ℕ
-oddCell dst a L = getD dst (rowOf a L * 16 + (2 * (L % 8) + 1)) 0
+oddCell dst a L = getD dst (placeOf a L true) 0
 
 -- Lane L after one instruction, at address a: the lane rules over the lane, row 0's lane of its column and its two cells.
 unfoldable pub laneAfter : Settings → Insn → ℕ → List ℕ → List ℕ → ℕ → Lane
@@ -39,14 +41,37 @@ imageAt s i a image dst = ofLanes (laneAfter s i a image dst)
 unfoldable pub imageAfter : Settings → Insn → ℕ → List ℕ → List ℕ → List ℕ
 imageAfter s i cursor image dst = imageAt s i (address (i .imm) (s .offset) cursor) image dst
 
+-- The Dst in which each lane L has the two cells `made L` at address a: of the 16,384 cells, each that the address meets is its owner's, and each other is
+-- as before. No order of lanes comes into it.
+unfoldable pub withCells : ℕ → List ℕ → (ℕ → Cells) → List ℕ
+withCells a dst made =
+    build 16384 (λ p. pick (isMet a p) (pick (eqb (p % 2) 1) (made (ownerOf p) .odd) (made (ownerOf p) .even)) (getD dst p 0))
+
+-- The two cells of lane L after one instruction, at address a.
+unfoldable pub cellsAfter : Insn → ℕ → List ℕ → List ℕ → ℕ → Cells
+cellsAfter i a image dst L =
+    cellsOf (i .op) a i L (bit (laneIn image (headOf L) laneConfig) 5) (evenCell dst a L) (oddCell dst a L) (laneIn image L)
+
+-- The Dst after one instruction, at address a,
+unfoldable pub dstAt : Insn → ℕ → List ℕ → List ℕ → List ℕ
+dstAt i a image dst = withCells a dst (cellsAfter i a image dst)
+
+-- which the cursor gives.
+unfoldable pub dstAfter : Settings → Insn → ℕ → List ℕ → List ℕ → List ℕ
+dstAfter s i cursor image dst = dstAt i (address (i .imm) (s .offset) cursor) image dst
+
 -- The cursor after one instruction.
 abbrev pub cursorAfter : Settings → Insn → ℕ → ℕ
 cursorAfter s i cursor = nextCursor (i .op) cursor (stride s (i .vb))
 
--- One instruction. "Dst is only read."
+-- One instruction.
 unfoldable pub stepped : Settings → Insn → Machine → Machine
 stepped s i m =
-    record { image = imageAfter s i (m .cursor) (m .image) (m .dst); dst = m .dst; cursor = cursorAfter s i (m .cursor) }
+    record {
+      image = imageAfter s i (m .cursor) (m .image) (m .dst);
+      dst = dstAfter s i (m .cursor) (m .image) (m .dst);
+      cursor = cursorAfter s i (m .cursor);
+    }
 
 -- The first n instructions of a list.
 unfoldable pub steps : Settings → List ℕ → ℕ → Machine → Machine
@@ -69,7 +94,12 @@ outcomeOf s image dst list =
 unfoldable pub runImage : Settings → List ℕ → List ℕ → List ℕ → List ℕ
 runImage s image dst list = pick (eqb (runAnswer s image dst list .answer) 0) (finish s image dst list .image) image
 
--- Demand 2's rules: a run of a list over an image and a Dst has this outcome, and leaves this image.
-pub record Ran (s : Settings) (image dst list : List ℕ) (outcome : Outcome) (after : List ℕ) : Type 0 where
+-- The Dst afterwards; a refusal leaves it untouched too.
+unfoldable pub runDst : Settings → List ℕ → List ℕ → List ℕ → List ℕ
+runDst s image dst list = pick (eqb (runAnswer s image dst list .answer) 0) (finish s image dst list .dst) dst
+
+-- Demand 2's rules: a run of a list over an image and a Dst has this outcome, and leaves this image and this Dst.
+pub record Ran (s : Settings) (image dst list : List ℕ) (outcome : Outcome) (after stored : List ℕ) : Type 0 where
   pub outcome-is : outcome ≡ outcomeOf s image dst list
   pub image-is : after ≡ runImage s image dst list
+  pub dst-is : stored ≡ runDst s image dst list

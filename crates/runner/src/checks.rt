@@ -62,18 +62,18 @@ fn over_row(imm: u32, vb: u32, vc: u32, vd: u32, mods: u32) -> Over
     ensures { λ r. ⌜ r ≡ Quick.over imm vb vc vd mods ⌝ }
 {
     Over {
-        left: pair(!15, !imm),
+        left: pair(!31, !imm),
         middle: pair(!vb, !vc),
         right: pair(!vd, !15),
         mods,
     }
 }
 
-// The table for op 0, which is none, to 15.
+// The table for op 0, which is none, to 31, of which those past 16 are none either. Every number has its row, so that it is a table once compiled.
 fn over_of(op: u32) -> Over
-    ensures { λ r. ⌜ r ≡ Quick.overOf (op % 16) ⌝ }
+    ensures { λ r. ⌜ r ≡ Quick.overOf (op % 32) ⌝ }
 {
-    let k = op % 16;
+    let k = op % 32;
     match k {
         1 => over_row(1023, 3, 0, 15, 0xEBE7EBE7),
         2 => over_row(65535, 0, 0, 15, 0x0500),
@@ -90,6 +90,22 @@ fn over_of(op: u32) -> Over
         13 => over_row(0, 0, 15, 15, 0x0F0F),
         14 => over_row(0, 0, 15, 15, 0x0003),
         15 => over_row(0, 0, 0, 0, 0x0001),
+        16 => over_row(1023, 3, 0, 15, 0x02C402C4),
+        17 => over_row(0, 0, 0, 0, 0),
+        18 => over_row(0, 0, 0, 0, 0),
+        19 => over_row(0, 0, 0, 0, 0),
+        20 => over_row(0, 0, 0, 0, 0),
+        21 => over_row(0, 0, 0, 0, 0),
+        22 => over_row(0, 0, 0, 0, 0),
+        23 => over_row(0, 0, 0, 0, 0),
+        24 => over_row(0, 0, 0, 0, 0),
+        25 => over_row(0, 0, 0, 0, 0),
+        26 => over_row(0, 0, 0, 0, 0),
+        27 => over_row(0, 0, 0, 0, 0),
+        28 => over_row(0, 0, 0, 0, 0),
+        29 => over_row(0, 0, 0, 0, 0),
+        30 => over_row(0, 0, 0, 0, 0),
+        31 => over_row(0, 0, 0, 0, 0),
         _ => over_row(0, 0, 0, 0, 0),
     }
 }

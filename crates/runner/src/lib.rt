@@ -11,6 +11,8 @@ mod rows;
 mod compute;
 // LOAD and LOADI over all lanes.
 mod load;
+// STORE over all lanes.
+mod store;
 // SWAP over all lanes.
 mod swap;
 // LUT over all lanes.

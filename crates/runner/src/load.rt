@@ -22,7 +22,7 @@ ghost use Rattle.runner.specs.PrivateRows as Rows;
 ghost use Rattle.runner.specs.PrivateLoad as LoadRows;
 
 // The masks of the lanes whose cell is the odd one of its pair. The four lanes of a column go by the first one's LaneConfig.
-fn odd_row(image: &[u32], a: u16) -> [u32; 32]
+pub(crate) fn odd_row(image: &[u32], a: u16) -> [u32; 32]
     requires { ⌜ length (now image) ≡ 768 ⌝ }
     ensures { λ x. ⌜ x ≡ LoadRows.oddIn (now (image .entry)) a ⌝ }
 {

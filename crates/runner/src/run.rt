@@ -12,6 +12,7 @@ use crate::load::loadi;
 use crate::lut::lut;
 use crate::rows::enabled_row;
 use crate::rows::fixed_rows;
+use crate::store::store;
 use crate::swap::swap;
 use lane::Insn;
 use lane::Settings;
@@ -19,16 +20,18 @@ use lane::load::address;
 use lane::load::next_cursor;
 use lane::load::stride;
 ghost use mathlib.Core.Path.{_≡_};
-ghost use Prim.Native.Nat.{_≤_};
+ghost use mathlib.Core.Bool.{true, false};
+ghost use Prim.Native.Nat.{_<_, _≤_};
 ghost use lib.ListN.{length};
+ghost use Rattle.lane.specs.Load as Load;
 ghost use Rattle.runner.specs.Run as Run;
 ghost use Rattle.runner.specs.PrivateRows as Rows;
 ghost use Rattle.runner.specs.PrivateSteps as Steps;
 
-// Any instruction but LOAD, in every lane. `go` are the run's rows of masks, `fixed` the rows of the registers never stored. The op is a constant
+// Any instruction that does not meet Dst, in every lane. `go` are the run's rows of masks, `fixed` the rows of the registers never stored. The op is a constant
 // where one function serves several.
 fn step_stored(s: Settings, i: Insn, image: &mut [u32], go: &mut [u32; 128], fixed: &[u32; 128])
-    requires { ⌜ (length (now image) ≡ 768) × (Rows.Enabled (now go) (now image) × ((now fixed ≡ Rows.fixedRows) × (i .op ≡ 1 → ⊥))) ⌝ }
+    requires { ⌜ (length (now image) ≡ 768) × (Rows.Enabled (now go) (now image) × ((now fixed ≡ Rows.fixedRows) × (Load.meetsDst (i .op) ≡ false))) ⌝ }
     ensures { λ _. ⌜ Steps.Stored s i (now (image .entry)) (now (image .exit)) (now (go .exit)) ⌝ }
 {
     let op = i.op;
@@ -50,32 +53,53 @@ fn step_stored(s: Settings, i: Insn, image: &mut [u32], go: &mut [u32; 128], fix
     }
 }
 
+// An instruction that meets Dst, at address `a`, in every lane: LOAD or STORE.
+fn step_dst(
+    s: Settings,
+    i: Insn,
+    a: u16,
+    image: &mut [u32],
+    dst: &mut [u16],
+    go: &[u32; 128],
+    fixed: &[u32; 128],
+)
+    requires { ⌜ (length (now image) ≡ 768) × ((length (now dst) ≡ 16384) × (Rows.Enabled (now go) (now image) × ((now fixed ≡ Rows.fixedRows) × ((a < 1024) × (Load.meetsDst (i .op) ≡ true))))) ⌝ }
+    ensures { λ _. ⌜ Steps.Met s i a (now (image .entry)) (now (dst .entry)) (now (image .exit)) (now (dst .exit)) (now (go .entry)) ⌝ }
+{
+    if i.op == 1 {
+        load(image, dst, s.srcb, a, i, go);
+        return;
+    }
+    store(image, dst, a, i, go, fixed);
+}
+
 // One instruction, in every lane; the cursor after it.
 fn step_lanes(
     s: Settings,
     i: Insn,
     cursor: u32,
     image: &mut [u32],
-    dst: &[u16],
+    dst: &mut [u16],
     go: &mut [u32; 128],
     fixed: &[u32; 128],
 ) -> u32
     requires { ⌜ (length (now image) ≡ 768) × ((length (now dst) ≡ 16384) × (Rows.Enabled (now go) (now image) × (now fixed ≡ Rows.fixedRows))) ⌝ }
-    ensures { λ r. ⌜ Steps.Left s i cursor (now (image .entry)) (now (dst .entry)) r (now (image .exit)) (now (go .exit)) ⌝ }
+    ensures { λ r. ⌜ Steps.Left s i cursor (now (image .entry)) (now (dst .entry)) r (now (image .exit)) (now (dst .exit)) (now (go .exit)) ⌝ }
 {
-    if i.op == 1 {
+    let meets_dst = (i.op == 1) | (i.op == 16);
+    if meets_dst {
         let a = address(i.imm, s.offset, cursor);
-        load(image, dst, s.srcb, a, i, go);
-        return next_cursor(1, cursor, stride(s, i.vb));
+        step_dst(s, i, a, image, dst, go, fixed);
+        return next_cursor(i.op, cursor, stride(s, i.vb));
     }
     step_stored(s, i, image, go, fixed);
     cursor
 }
 
 // All instructions of a list in turn, from a cursor; the cursor after them. What lasts through them is made once.
-fn step_all(s: Settings, cursor: u32, image: &mut [u32], dst: &[u16], list: &[u32]) -> u32
+fn step_all(s: Settings, cursor: u32, image: &mut [u32], dst: &mut [u16], list: &[u32]) -> u32
     requires { ⌜ (length (now image) ≡ 768) × ((length (now dst) ≡ 16384) × (length (now list) ≤ 6144)) ⌝ }
-    ensures { λ r. ⌜ (r ≡ Steps.from s cursor (now (image .entry)) (now (dst .entry)) (now (list .entry)) .cursor) × (now (image .exit) ≡ Steps.from s cursor (now (image .entry)) (now (dst .entry)) (now (list .entry)) .image) ⌝ }
+    ensures { λ r. ⌜ (r ≡ Steps.from s cursor (now (image .entry)) (now (dst .entry)) (now (list .entry)) .cursor) × ((now (image .exit) ≡ Steps.from s cursor (now (image .entry)) (now (dst .entry)) (now (list .entry)) .image) × (now (dst .exit) ≡ Steps.from s cursor (now (image .entry)) (now (dst .entry)) (now (list .entry)) .dst)) ⌝ }
 {
     let count = list.len() / 6;
     let mut go = [0u32; 128];
@@ -90,9 +114,9 @@ fn step_all(s: Settings, cursor: u32, image: &mut [u32], dst: &[u16], list: &[u3
     at
 }
 
-// A run of a list over an image and a Dst: a refusal leaves the image untouched.
-pub fn run(s: Settings, image: &mut [u32], dst: &[u16], list: &[u32]) -> Outcome
-    ensures { λ r. ⌜ Run.Ran s (now (image .entry)) (now (dst .entry)) (now (list .entry)) r (now (image .exit)) ⌝ }
+// A run of a list over an image and a Dst: a refusal leaves both untouched.
+pub fn run(s: Settings, image: &mut [u32], dst: &mut [u16], list: &[u32]) -> Outcome
+    ensures { λ r. ⌜ Run.Ran s (now (image .entry)) (now (dst .entry)) (now (list .entry)) r (now (image .exit)) (now (dst .exit)) ⌝ }
 {
     let found = run_answer(s, image, dst, list);
     let answer = found.answer;

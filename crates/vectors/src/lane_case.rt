@@ -2,6 +2,7 @@
 use crate::form::number;
 use crate::form::settings;
 use crate::lines::NOTHING;
+use crate::lines::cell_checksum;
 use crate::lines::checksum;
 use crate::lines::print;
 use crate::made::IMAGE;
@@ -34,12 +35,13 @@ fn step_and_print(
     lane: u32,
     own: &mut [u32; 24],
     head: &[u32; 24],
+    cells: &mut [u16; 2],
 ) {
-    let answer = replay_lane(settings, lane, insn, own, head, cell(), cell());
-    print(2, &[answer], checksum(NOTHING, own));
+    let answer = replay_lane(settings, lane, insn, own, head, cells);
+    print(2, &[answer], cell_checksum(checksum(NOTHING, own), cells));
 }
 
-// Settings, the instruction, the image, its lane and the one that stands for row 0's, and two cells.
+// Settings, the instruction, the image, its lane and the one that stands for row 0's, and its even and its odd cell.
 pub(crate) fn lane_case() {
     let settings = settings();
     let insn = insn();
@@ -48,5 +50,6 @@ pub(crate) fn lane_case() {
     let lane = number();
     let mut own = lane_words(&image, lane);
     let head = lane_words(&image, number());
-    step_and_print(&settings, &insn, lane, &mut own, &head);
+    let mut cells = [cell(), cell()];
+    step_and_print(&settings, &insn, lane, &mut own, &head, &mut cells);
 }

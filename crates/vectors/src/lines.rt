@@ -28,6 +28,23 @@ pub(crate) fn checksum(before: u32, words: &[u32]) -> u32 {
     h
 }
 
+fn of_cell(cell: u16) -> u32
+    ensures { λ r. ⌜ r < 65536 ⌝ }
+{
+    cell as u32
+}
+
+// The checksum of cells that come after words.
+pub(crate) fn cell_checksum(before: u32, cells: &[u16]) -> u32 {
+    let mut h = before;
+    let mut i: usize = 0;
+    while i < cells.len() {
+        h = mixed(h, of_cell(cells[i]));
+        i += 1;
+    }
+    h
+}
+
 pub(crate) fn byte_checksum(bytes: &[u8]) -> u32 {
     let mut h = NOTHING;
     let mut i: usize = 0;

@@ -1,6 +1,6 @@
 use borrow.Author.Needs.{needs}
 use native.Mathlib.Omega.{arith}
-use Rattle.lane.proofs.Cases.{if-eq, cases}
+use Rattle.lane.proofs.Cases.{if-true, cases}
 use Rattle.lane.proofs.load.next_cursor.Statement.{statement}
 use Rattle.lane.specs.Load.{nextCursor}
 use Rattle.lane.proofs.load.next_cursor.Tie as tie
@@ -10,7 +10,7 @@ add-result c = search needs
 
 returns : tie.Need-returns
 unfolding nextCursor
-returns c = if-eq _ _ _ _ _ (c .if1 .taken) (omega arith)
+returns c = if-true _ _ _ _ (c .if1 .taken) (omega arith)
 
 returns-2 : tie.Need-returns-2
 unfolding nextCursor

@@ -2,6 +2,7 @@ use borrow.Author.Needs.{needs}
 use native.Mathlib.Omega.{arith}
 use Rattle.lane.proofs.Cases.{byte-is, byte-small}
 use Rattle.lane.proofs.load.place.Statement.{statement}
+use Rattle.lane.specs.Load.{placeOf}
 use Rattle.lane.proofs.load.place.Tie as tie
 
 mul-row : tie.Need-mul-row
@@ -26,6 +27,7 @@ add-result-2 : tie.Need-add-result-2
 add-result-2 c = omega (arith, byte-small (c .args .odd))
 
 returns : tie.Need-returns
+unfolding placeOf
 returns c = simp byte-is
 
 pub place-spec : {M : Type 1} → statement M

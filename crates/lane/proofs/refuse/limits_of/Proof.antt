@@ -53,6 +53,9 @@ row-requires-15 c κs = search needs
 row-requires-16 : tie.Need-row-requires-16
 row-requires-16 c κs = search needs
 
+row-requires-17 : tie.Need-row-requires-17
+row-requires-17 c κs = search needs
+
 returns : tie.Need-returns
 unfolding limitsOf
 returns c = simp (c .before .match .keys1, c .row .ensures)
@@ -115,9 +118,13 @@ returns-15 c = simp (c .before .match .keys15, c .row15 .ensures)
 
 returns-16 : tie.Need-returns-16
 unfolding limitsOf
-returns-16 c =
+returns-16 c = simp (c .before .match .keys16, c .row16 .ensures)
+
+returns-17 : tie.Need-returns-17
+unfolding limitsOf
+returns-17 c =
     let op = c .before .before .args .op in
-    c .row16 .ensures ∙ no-row op (λ l. least op (less 1 op (less 2 op (less 3 op (less 4 op (less 5 op (less 6 op (less 7 op (less 8 op (less 9 op (less 10 op (less 11 op (less 12 op (less 13 op (less 14 op (less 15 op l (c .before .match .rest .1)) (c .before .match .rest .0 .1)) (c .before .match .rest .0 .0 .1)) (c .before .match .rest .0 .0 .0 .1)) (c .before .match .rest .0 .0 .0 .0 .1)) (c .before .match .rest .0 .0 .0 .0 .0 .1)) (c .before .match .rest .0 .0 .0 .0 .0 .0 .1)) (c .before .match .rest .0 .0 .0 .0 .0 .0 .0 .1)) (c .before .match .rest .0 .0 .0 .0 .0 .0 .0 .0 .1)) (c .before .match .rest .0 .0 .0 .0 .0 .0 .0 .0 .0 .1)) (c .before .match .rest .0 .0 .0 .0 .0 .0 .0 .0 .0 .0 .1)) (c .before .match .rest .0 .0 .0 .0 .0 .0 .0 .0 .0 .0 .0 .1)) (c .before .match .rest .0 .0 .0 .0 .0 .0 .0 .0 .0 .0 .0 .0 .1)) (c .before .match .rest .0 .0 .0 .0 .0 .0 .0 .0 .0 .0 .0 .0 .0 .1)) (c .before .match .rest .0 .0 .0 .0 .0 .0 .0 .0 .0 .0 .0 .0 .0 .0 .1)))
+    c .row17 .ensures ∙ no-row op (λ l. least op (less 1 op (less 2 op (less 3 op (less 4 op (less 5 op (less 6 op (less 7 op (less 8 op (less 9 op (less 10 op (less 11 op (less 12 op (less 13 op (less 14 op (less 15 op (less 16 op l (c .before .match .rest .1)) (c .before .match .rest .0 .1)) (c .before .match .rest .0 .0 .1)) (c .before .match .rest .0 .0 .0 .1)) (c .before .match .rest .0 .0 .0 .0 .1)) (c .before .match .rest .0 .0 .0 .0 .0 .1)) (c .before .match .rest .0 .0 .0 .0 .0 .0 .1)) (c .before .match .rest .0 .0 .0 .0 .0 .0 .0 .1)) (c .before .match .rest .0 .0 .0 .0 .0 .0 .0 .0 .1)) (c .before .match .rest .0 .0 .0 .0 .0 .0 .0 .0 .0 .1)) (c .before .match .rest .0 .0 .0 .0 .0 .0 .0 .0 .0 .0 .1)) (c .before .match .rest .0 .0 .0 .0 .0 .0 .0 .0 .0 .0 .0 .1)) (c .before .match .rest .0 .0 .0 .0 .0 .0 .0 .0 .0 .0 .0 .0 .1)) (c .before .match .rest .0 .0 .0 .0 .0 .0 .0 .0 .0 .0 .0 .0 .0 .1)) (c .before .match .rest .0 .0 .0 .0 .0 .0 .0 .0 .0 .0 .0 .0 .0 .0 .1)) (c .before .match .rest .0 .0 .0 .0 .0 .0 .0 .0 .0 .0 .0 .0 .0 .0 .0 .1)))
 
 pub limits-of-spec : {M : Type 1} → statement M
 limits-of-spec =
@@ -139,6 +146,7 @@ limits-of-spec =
     row-requires-14
     row-requires-15
     row-requires-16
+    row-requires-17
     returns
     returns-2
     returns-3
@@ -154,4 +162,5 @@ limits-of-spec =
     returns-13
     returns-14
     returns-15
-    returns-16)
+    returns-16
+    returns-17)

@@ -15,15 +15,15 @@ returns c = choose-true _ _ _ _ _ (eq-eqb _ _ (c .before .if1 .taken)) (c .confi
 address-requires : tie.Need-address-requires
 address-requires c κs = search needs
 
-array-read-exchanged : tie.Need-array-read-exchanged
-array-read-exchanged c = search needs
+is-exchanged-requires : tie.Need-is-exchanged-requires
+is-exchanged-requires c κs = search needs
 
 lanewise-words-requires : tie.Need-lanewise-words-requires
 lanewise-words-requires c κs = search needs
 
 returns-2 : tie.Need-returns-2
 unfolding storesOf
-returns-2 c = choose-false _ _ _ _ _ (ne-eqb _ _ (c .before .before .if1 .left)) (rw (c .before .address .ensures) at (c .lanewise-words .ensures))
+returns-2 c = choose-false _ _ _ _ _ (ne-eqb _ _ (c .before .before .before .if1 .left)) (rw (c .before .before .address .ensures, c .before .is-exchanged .ensures) at (c .lanewise-words .ensures))
 
 pub lane-words-spec : {M : Type 1} → statement M
 lane-words-spec =
@@ -32,6 +32,6 @@ lane-words-spec =
     config-lane-requires
     returns
     address-requires
-    array-read-exchanged
+    is-exchanged-requires
     lanewise-words-requires
     returns-2)

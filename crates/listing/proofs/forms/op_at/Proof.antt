@@ -9,7 +9,7 @@ use Rattle.listing.specs.Forms.{opOf, text}
 use Rattle.listing.proofs.forms.op_at.Tie as tie
 
 abbrev Inv-loop : tie.InvT-loop
-Inv-loop text at op₀ op = (op ≤ 15) × (opOf 15 (drop at text) ≡ opOf op (drop at text))
+Inv-loop text at op₀ op = (op ≤ 16) × (opOf 16 (drop at text) ≡ opOf op (drop at text))
 
 abbrev μ-loop : tie.MeasureT-loop
 μ-loop text at op₀ op = op

@@ -38,7 +38,7 @@ same-length c = search needs
 -- src/program.rt:14:1
 returns : tie.Need-returns
 unfolding runReport
-returns c = rw (c .before .before .before .before .before .before .before .run .ensures .outcome-is, c .before .before .before .before .before .before .before .run .ensures .image-is) at (c .before .before .report .ensures)
+returns c = rw (c .before .before .before .before .before .before .before .before .run .ensures .outcome-is, c .before .before .before .before .before .before .before .before .run .ensures .image-is) at (c .before .before .report .ensures)
 
 pub run-reported-spec : {M : Type 1} → statement M
 run-reported-spec =

@@ -1,7 +1,7 @@
 use Rattle.lane.specs.Rule.{lanewise, storesOf}
 use Rattle.lane.specs.Words.{pick}
 use Rattle.runner.proofs.Quiet.{quiet-loadi, quiet-lut, quiet-config, quiet-valued}
-use Rattle.runner.proofs.Steps.{stored-arm, quiet-arm, no-arm, valued-rest}
+use Rattle.runner.proofs.Steps.{stored-arm, quiet-arm, no-arm, valued-rest, meets-not}
 use Rattle.runner.proofs.run.step_stored.Statement.{statement}
 use Rattle.runner.specs.Image.{laneIn}
 use borrow.Author.Needs.{needs}
@@ -81,7 +81,7 @@ returns-13 c = no-arm (c .before .before .args .s) (c .before .before .args .i) 
 
 returns-14 : tie.Need-returns-14
 unfolding storesOf lanewise pick
-returns-14 c = quiet-arm (c .before .before .before .before .before .before .before .args .s) (c .before .before .before .before .before .before .before .args .i) _ _ _ _ (c .before .before .before .before .before .before .before .pre .1 .0) (c .before .before .valued6 .ensures) (λ L. quiet-valued 14 (c .before .before .before .before .before .before .before .args .i) L (laneIn (c .before .before .before .before .before .before .before .args .image .now) L)) (λ a dst L. simp (ne-eqb _ _ (c .before .before .before .before .before .match .rest .0 .0 .0 .0 .0 .0 .0 .0 .0 .0 .0 .0 .1), ne-eqb _ _ (c .before .before .before .before .before .match .rest .0 .0 .0 .0 .0 .0 .0 .0 .0 .0 .0 .1), ne-eqb _ _ (c .before .before .before .before .before .match .rest .0 .0 .0 .0 .0 .0 .0 .0 .0 .0 .1), ne-eqb _ _ (c .before .before .before .before .before .match .rest .0 .0 .0 .0 .0 .0 .0 .0 .0 .1), ne-eqb _ _ (c .before .before .before .before .before .match .rest .0 .0 .0 .0 .0 .0 .0 .0 .1), ne-eqb _ _ (c .before .before .before .before .before .match .rest .0 .0 .1), ne-eqb _ _ (c .before .before .before .before .before .match .rest .0 .1), ne-eqb _ _ (c .before .before .before .before .before .match .rest .1), ne-eqb _ _ (c .before .before .before .before .before .before .before .pre .1 .1 .1)) (valued-rest (c .before .before .before .before .before .before .before .args .i .op) (c .before .before .before .before .before .before .before .args .i) L (laneIn (c .before .before .before .before .before .before .before .args .image .now) L) (c .before .before .before .before .before .match .rest .0 .0 .0 .0 .0 .0 .0 .1) (c .before .before .before .before .before .match .rest .0 .0 .0 .0 .0 .0 .1) (c .before .before .before .before .before .match .rest .0 .0 .0 .0 .0 .1) (c .before .before .before .before .before .match .rest .0 .0 .0 .0 .1) (c .before .before .before .before .before .match .rest .0 .0 .0 .1)))
+returns-14 c = quiet-arm (c .before .before .before .before .before .before .before .args .s) (c .before .before .before .before .before .before .before .args .i) _ _ _ _ (c .before .before .before .before .before .before .before .pre .1 .0) (c .before .before .valued6 .ensures) (λ L. quiet-valued 14 (c .before .before .before .before .before .before .before .args .i) L (laneIn (c .before .before .before .before .before .before .before .args .image .now) L)) (λ a dst L. simp (ne-eqb _ _ (c .before .before .before .before .before .match .rest .0 .0 .0 .0 .0 .0 .0 .0 .0 .0 .0 .0 .1), ne-eqb _ _ (c .before .before .before .before .before .match .rest .0 .0 .0 .0 .0 .0 .0 .0 .0 .0 .0 .1), ne-eqb _ _ (c .before .before .before .before .before .match .rest .0 .0 .0 .0 .0 .0 .0 .0 .0 .0 .1), ne-eqb _ _ (c .before .before .before .before .before .match .rest .0 .0 .0 .0 .0 .0 .0 .0 .0 .1), ne-eqb _ _ (c .before .before .before .before .before .match .rest .0 .0 .0 .0 .0 .0 .0 .0 .1), ne-eqb _ _ (c .before .before .before .before .before .match .rest .0 .0 .1), ne-eqb _ _ (c .before .before .before .before .before .match .rest .0 .1), ne-eqb _ _ (c .before .before .before .before .before .match .rest .1), meets-not (c .before .before .before .before .before .before .before .args .i .op) (c .before .before .before .before .before .before .before .pre .1 .1 .1) .0, meets-not (c .before .before .before .before .before .before .before .args .i .op) (c .before .before .before .before .before .before .before .pre .1 .1 .1) .1) (valued-rest (c .before .before .before .before .before .before .before .args .i .op) (c .before .before .before .before .before .before .before .args .i) L (laneIn (c .before .before .before .before .before .before .before .args .image .now) L) (c .before .before .before .before .before .match .rest .0 .0 .0 .0 .0 .0 .0 .1) (c .before .before .before .before .before .match .rest .0 .0 .0 .0 .0 .0 .1) (c .before .before .before .before .before .match .rest .0 .0 .0 .0 .0 .1) (c .before .before .before .before .before .match .rest .0 .0 .0 .0 .1) (c .before .before .before .before .before .match .rest .0 .0 .0 .1)))
 
 pub step-stored-spec : {M : Type 1} → statement M
 step-stored-spec =

@@ -11,16 +11,22 @@ replay-run-requires c κs = search needs
 
 slice-aggregate-print : tie.Need-slice-aggregate-print
 unfolding outcomeWords
-slice-aggregate-print c = sym (ap length (c .before .before .before .replay-run .ensures .1 .0))
+slice-aggregate-print c = sym (ap length (c .before .before .before .before .before .replay-run .ensures .1 .0))
 
 checksum-requires : tie.Need-checksum-requires
 checksum-requires c κs = search needs
+
+cell-checksum-requires : tie.Need-cell-checksum-requires
+cell-checksum-requires c κs = search needs
 
 print-requires : tie.Need-print-requires
 print-requires c κs = search needs
 
 same-length : tie.Need-same-length
 same-length c = search needs
+
+same-length-2 : tie.Need-same-length-2
+same-length-2 c = search needs
 
 returns : tie.Need-returns
 returns c = search needs
@@ -32,6 +38,8 @@ run-and-print-spec =
     replay-run-requires
     slice-aggregate-print
     checksum-requires
+    cell-checksum-requires
     print-requires
     same-length
+    same-length-2
     returns)

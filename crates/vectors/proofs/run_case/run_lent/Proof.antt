@@ -21,6 +21,9 @@ slice-relend-prefix-run-and-print c = search needs
 slice-aggregate-run-and-print : tie.Need-slice-aggregate-run-and-print
 slice-aggregate-run-and-print c = sym (length-take-le _ _ (c .before .before .before .place .ensures))
 
+slice-relend-prefix-run-and-print-2 : tie.Need-slice-relend-prefix-run-and-print-2
+slice-relend-prefix-run-and-print-2 c = search needs
+
 slice-aggregate-run-and-print-2 : tie.Need-slice-aggregate-run-and-print-2
 slice-aggregate-run-and-print-2 c = sym (length-take-le _ _ (c .before .before .before .place2 .ensures))
 
@@ -32,6 +35,9 @@ run-and-print-requires c κs = search needs
 
 same-length : tie.Need-same-length
 same-length c = search needs
+
+same-length-2 : tie.Need-same-length-2
+same-length-2 c = search needs
 
 returns : tie.Need-returns
 returns c = search needs
@@ -45,8 +51,10 @@ run-lent-spec =
     place-requires-3
     slice-relend-prefix-run-and-print
     slice-aggregate-run-and-print
+    slice-relend-prefix-run-and-print-2
     slice-aggregate-run-and-print-2
     slice-aggregate-run-and-print-3
     run-and-print-requires
     same-length
+    same-length-2
     returns)
