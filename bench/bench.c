@@ -26,22 +26,30 @@ static const struct program programs[] = {
 };
 enum { PROGRAMS = sizeof programs / sizeof *programs };
 
-static uint32_t run_case(const struct program *p, const struct run_case *c, uint32_t image[ROOM_IMAGE], uint32_t outcome[4])
+/* What a program leaves of a case. */
+struct left {
+    uint32_t image[ROOM_IMAGE], outcome[4];
+    uint16_t dst[ROOM_DST];
+};
+
+static uint32_t run_case(const struct program *p, const struct run_case *c, struct left *left)
 {
-    memcpy(image, c->image, sizeof c->image);
-    return p->run(c->settings, image, c->image_len, c->dst, c->dst_len, c->list, c->list_len, outcome);
+    memcpy(left->image, c->image, sizeof c->image);
+    memcpy(left->dst, c->dst, sizeof c->dst);
+    return p->run(c->settings, left->image, c->image_len, left->dst, c->dst_len, c->list, c->list_len, left->outcome);
 }
 
 /* The answer, which is the same by all programs. */
 static uint32_t must_match(const struct run_case *c)
 {
-    uint32_t right[ROOM_IMAGE], image[ROOM_IMAGE], expected[4], outcome[4], answer = run_case(&programs[PROGRAMS - 1], c, right, expected);
+    static struct left right, left;
+    uint32_t answer = run_case(&programs[PROGRAMS - 1], c, &right);
     for (unsigned i = 0; i < PROGRAMS - 1; i++) {
-        if (run_case(&programs[i], c, image, outcome) == answer && memcmp(image, right, sizeof image) == 0 &&
-            memcmp(outcome, expected, sizeof outcome) == 0)
+        if (run_case(&programs[i], c, &left) == answer && memcmp(left.image, right.image, sizeof left.image) == 0 &&
+            memcmp(left.dst, right.dst, sizeof left.dst) == 0 && memcmp(left.outcome, right.outcome, sizeof left.outcome) == 0)
             continue;
         fprintf(stderr, "bench: %s differs from the independent program (answers %u and %u) on %zu words, the first op %u with mod %u\n",
-                programs[i].name, (unsigned)outcome[O_ANSWER], (unsigned)answer, c->list_len, (unsigned)c->list[F_OP],
+                programs[i].name, (unsigned)left.outcome[O_ANSWER], (unsigned)answer, c->list_len, (unsigned)c->list[F_OP],
                 (unsigned)c->list[F_MOD]);
         exit(1);
     }
@@ -66,11 +74,12 @@ static void compare_fields(void)
     static const uint32_t values[] = {0, 1, 3, 4, 7, 8, 11, 12, 15, 16, 1023, 1024, 4095, 4096, 65535, 65536, 0xFFFFFFFF};
     static struct run_case c;
     unsigned count = 0, refused = 0;
+    const struct list *mix = make_list(0, OPS - 1);
     c.image_len = LIST_IMAGE, c.dst_len = LIST_DST, c.list_len = 6;
     memcpy(c.settings, list_settings, sizeof list_settings);
-    memcpy(c.image, make_list(0)->image[MIXED], sizeof make_list(0)->image[MIXED]);
+    memcpy(c.image, mix->image[MIXED], sizeof mix->image[MIXED]);
     memcpy(c.dst, list_dst, sizeof list_dst);
-    for (uint32_t op = 0; op <= 16; op++)
+    for (uint32_t op = 0; op <= OPS; op++)
         for (uint32_t mod = 0; mod <= 16; mod++)
             for (unsigned field = F_IMM; field <= F_VD; field++)
                 for (unsigned v = 0; v < sizeof values / sizeof *values; v++) {

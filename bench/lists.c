@@ -12,19 +12,22 @@ uint16_t list_dst[LIST_DST];
 #define EVERY "0123456789ABCDEF"
 static const struct shape {
     const char *name;
-    uint32_t op;                /* 0: all fifteen */
+    uint32_t op;                /* 0: a mix, each op as likely as the others */
+    uint32_t last;              /* the last op of a mix; 0: as for all lists */
     const char *mods, *vds;     /* NULL: the op's own */
     uint32_t config;            /* bits of LaneConfig that every lane has besides */
     size_t count;               /* 0: as many as a list may have */
 } shapes[] = {
     {"mix", .op = 0},
+    {"mix, no STORE", .last = NOP},     /* the mix as it was before M-101: these figures compare with those of that time */
     {"LOAD", .op = LOAD}, {"LOADI", .op = LOADI}, {"LUT", .op = LUT}, {"SWAP", .op = SWAP}, {"CONFIG", .op = CONFIG}, {"IADD", .op = IADD},
     {"ABS", .op = ABS}, {"AND", .op = AND}, {"OR", .op = OR}, {"XOR", .op = XOR}, {"NOT", .op = NOT}, {"LZ", .op = LZ},
-    {"EXEXP", .op = EXEXP}, {"EXMAN", .op = EXMAN}, {"NOP", .op = NOP},
+    {"EXEXP", .op = EXEXP}, {"EXMAN", .op = EXMAN}, {"NOP", .op = NOP}, {"STORE", .op = STORE},
     {"LOAD mod 0", .op = LOAD, .mods = "0"}, {"LOAD mod 1", .op = LOAD, .mods = "1"}, {"LOAD mod 2", .op = LOAD, .mods = "2"},
     {"LOAD mod 5", .op = LOAD, .mods = "5"}, {"LOAD mod 6", .op = LOAD, .mods = "6"}, {"LOAD mod 7", .op = LOAD, .mods = "7"},
     {"LOAD mod 8", .op = LOAD, .mods = "8"}, {"LOAD mod 9", .op = LOAD, .mods = "9"}, {"LOAD mod 11", .op = LOAD, .mods = "B"},
     {"LOAD mod 13", .op = LOAD, .mods = "D"}, {"LOAD mod 14", .op = LOAD, .mods = "E"}, {"LOAD mod 15", .op = LOAD, .mods = "F"},
+    {"STORE mod 2", .op = STORE, .mods = "2"}, {"STORE mod 6", .op = STORE, .mods = "6"}, {"STORE mod 7", .op = STORE, .mods = "7"},
     {"SWAP by index", .op = SWAP, .config = 1 << 2},
     {"LUT mod 8", .op = LUT, .mods = "8"}, {"LUT mod 12", .op = LUT, .mods = "C"},
     {"CONFIG to 8", .op = CONFIG, .vds = "8"}, {"CONFIG to 15", .op = CONFIG, .vds = "F"},
@@ -54,22 +57,23 @@ static uint32_t one_of(const char *digits)
 }
 
 /* The mods that each op allows, and the limits of its imm, vb and vc. */
-static const struct { const char *mods; uint32_t imm, vb, vc; } allowed[16] = {
+static const struct { const char *mods; uint32_t imm, vb, vc; } allowed[OPS] = {
     [LOAD] = {"01256789BDEF", 1024, 4, 1}, [LOADI] = {"8A", 65536, 1, 1}, [LUT] = {"048C", 1, 1, 1}, [SWAP] = {EVERY, 1, 1, 16},
     [CONFIG] = {EVERY, 65536, 1, 1}, [IADD] = {EVERY, 4096, 1, 16}, [ABS] = {"01", 1, 1, 16}, [AND] = {"01", 1, 16, 16},
     [OR] = {"01", 1, 16, 16}, [XOR] = {"0", 1, 1, 16}, [NOT] = {"0", 1, 1, 16}, [LZ] = {"02468ACE", 1, 1, 16},
-    [EXEXP] = {"012389AB", 1, 1, 16}, [EXMAN] = {"01", 1, 1, 16}, [NOP] = {"0", 1, 1, 1},
+    [EXEXP] = {"012389AB", 1, 1, 16}, [EXMAN] = {"01", 1, 1, 16}, [NOP] = {"0", 1, 1, 1}, [STORE] = {"2679", 1024, 4, 1},
 };
 
-/* An instruction with good fields. vd is a register that is stored, save for CONFIG, so that there is work to do. */
-static void make_insn(const struct shape *s, uint32_t insn[6])
+/* An instruction with good fields. vd is a register that is stored, so that there is work to do, save for CONFIG, and for STORE, which reads
+ * any. */
+static void make_insn(const struct shape *s, uint32_t last, uint32_t insn[6])
 {
-    uint32_t op = s->op ? s->op : 1 + any(15), mod = one_of(s->mods ? s->mods : allowed[op].mods);
+    uint32_t op = s->op ? s->op : 1 + any(last), mod = one_of(s->mods ? s->mods : allowed[op].mods);
     insn[F_OP] = op;
     insn[F_IMM] = any(allowed[op].imm);
     insn[F_VB] = any((op == AND || op == OR) && mod == 0 ? 1 : allowed[op].vb);
     insn[F_VC] = any(allowed[op].vc);
-    insn[F_VD] = one_of(op == NOP ? "0" : s->vds ? s->vds : op == CONFIG ? EVERY : STORED);
+    insn[F_VD] = one_of(op == NOP ? "0" : s->vds ? s->vds : op == CONFIG || op == STORE ? EVERY : STORED);
     insn[F_MOD] = mod;
 }
 
@@ -92,7 +96,7 @@ static void make_images(uint32_t images[IMAGE_KINDS][LIST_IMAGE], uint32_t confi
     }
 }
 
-const struct list *make_list(unsigned k)
+const struct list *make_list(unsigned k, uint32_t last)
 {
     static struct list made;
     if (k >= sizeof shapes / sizeof *shapes) return NULL;
@@ -101,7 +105,8 @@ const struct list *make_list(unsigned k)
     make_images(made.image, s->config);
     for (unsigned i = 0; i < LIST_DST; i++) list_dst[i] = (uint16_t)any(65536);
     made.name = s->name;
-    made.count = s->count ? s->count : MAX_INSNS;
-    for (unsigned i = 0; i < made.count; i++) make_insn(s, made.words + 6 * i);
+    made.count = s->op > last ? 0 : s->count ? s->count : MAX_INSNS;
+    if (s->last != 0 && s->last < last) last = s->last;
+    for (unsigned i = 0; i < made.count; i++) make_insn(s, last, made.words + 6 * i);
     return &made;
 }

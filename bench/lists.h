@@ -12,7 +12,7 @@ enum image_kind { QUIET, MIXED, IMAGE_KINDS };
 
 struct list {
     const char *name;
-    size_t count;                                       /* instructions */
+    size_t count;                                       /* instructions; 0: an op past `last` */
     uint32_t words[LIST_WORDS];                         /* six an instruction */
     uint32_t image[IMAGE_KINDS][LIST_IMAGE];
 };
@@ -20,7 +20,8 @@ struct list {
 extern const uint32_t list_settings[8];
 extern uint16_t list_dst[LIST_DST];
 
-/* Makes the k-th list, and its images; NULL past the last. What it hands out stands until the next call. */
-const struct list *make_list(unsigned k);
+/* Makes the k-th list, and its images; NULL past the last list. The ops are those up to `last`, so that mixes can be made for programs that
+ * know no more. What it hands out stands until the next call. */
+const struct list *make_list(unsigned k, uint32_t last);
 
 #endif

@@ -3,7 +3,7 @@
  * Every loop goes over a row of 32 lanes and has no branch: what the instruction decides is decided before it, and what a lane does not do
  * is masked out. Compilers make vectors of such loops. A truth about a lane is therefore a mask: 0, or all ones.
  *
- * The image is worked on where it lies, save for its flags, which are masks during a run. */
+ * Image and Dst are worked on where they lie, save for the image's flags, which are masks during a run. */
 #include "plain.h"
 
 #include <stdbool.h>
@@ -11,7 +11,7 @@
 
 enum { LANES = 32, COLUMNS = 8, IMAGE_WORDS = 768, DST_CELLS = 16384, MAX_INSNS = 1024 };
 
-enum { LOAD = 1, LOADI, LUT, SWAP, CONFIG, IADD, ABS, AND, OR, XOR, NOT, LZ, EXEXP, EXMAN, NOP };
+enum { LOAD = 1, LOADI, LUT, SWAP, CONFIG, IADD, ABS, AND, OR, XOR, NOT, LZ, EXEXP, EXMAN, NOP, STORE };
 
 /* The words of an instruction, the rows of an image after registers 0 to 7, and the bits of LaneConfig. */
 enum { OP, IMM, VB, VC, VD, MOD, WORDS };
@@ -28,7 +28,7 @@ struct run {
     row idle[2];                        /* takes what SWAP would store to registers that are never stored */
     uint32_t *image;
     const uint32_t *reg[16];            /* the row of each register */
-    const uint16_t *dst;
+    uint16_t *dst;
     const uint32_t *stride;
     uint32_t edition, srcb, offset, cursor;
 };
@@ -118,6 +118,36 @@ static inline void load(struct run *r, const uint32_t *insn)
     if (vd < 4) {
         uint32_t *index = at(r, vd + 4), both = 1 << INDEX | 1 << CAPTURE;
         EACH_LANE(n) index[n] = pick(go[n] & full((config[n] & both) == both), place + 2 * n - odd[n], index[n]);    /* a mask is minus 1 */
+    }
+}
+
+/* STORE */
+
+static inline void put_pair(uint16_t *cells, unsigned n, uint32_t word) { memcpy(cells + 2 * n, &word, sizeof word); }
+
+static inline uint32_t twice(uint32_t cell) { return cell | cell << 16; }
+
+static inline uint32_t bf16_back(uint32_t word) { return (word >> 16 & 0x8000) | (word >> 8 & 0x7F00) | (word >> 23 & 0xFF); }
+
+/* The cell goes to both halves of the lane's pair, and a mask of 16 bits lets the right one through. */
+static inline void store(struct run *r, const uint32_t *insn)
+{
+    uint32_t address = advance(r, insn);
+    uint16_t *cells = r->dst + address / 4 * 64;
+    const uint32_t *word = r->reg[insn[VD]], *config = at(r, LANE_CONFIG), *on = r->on;
+    row half;
+    EACH_COLUMN(j) {
+        uint32_t side = 0xFFFF ^ (has(address, 1) | has(config[j], ODD_COLUMN));
+        half[j] = on[j] & side;
+        half[8 + j] = on[8 + j] & side;
+        half[16 + j] = on[16 + j] & side;
+        half[24 + j] = on[24 + j] & side;
+    }
+#define STORE_AS(value) EACH_LANE(n) put_pair(cells, n, pick(half[n], value, pair(cells, n)))
+    switch (insn[MOD]) {
+    case 2:  STORE_AS(twice(bf16_back(word[n]))); break;
+    case 7:  STORE_AS(twice(word[n] >> 16)); break;
+    default: STORE_AS(twice(word[n] & 0xFFFF)); break;     /* 6 and 9 */
     }
 }
 
@@ -237,17 +267,17 @@ static inline void config(struct run *r, const uint32_t *insn)
 
 /* The others store a word made of words of the rows b (vb under mod 1, else vd), c and d, where vd is below 8. */
 
-#define STORE(value) EACH_LANE(n) d[n] = pick(r->on[n], value, d[n])
+#define WRITE(value) EACH_LANE(n) d[n] = pick(r->on[n], value, d[n])
 
 /* If `sets`, the flag gets `truth`, which may speak of the value as `word`; it then becomes its contrary if `turns`. */
-#define STORE_AND_FLAG(value, truth)                                          \
+#define WRITE_AND_FLAG(value, truth)                                          \
     do {                                                                      \
         if (sets) EACH_LANE(n) {                                              \
             uint32_t word = value, on = r->on[n];                             \
             d[n] = pick(on, word, d[n]);                                      \
             put_flag(r, n, ((truth) ^ turns) & on);                           \
         } else {                                                              \
-            STORE(value);                                                     \
+            WRITE(value);                                                     \
             if (turns) EACH_LANE(n) put_flag(r, n, ~r->flag[n] & r->on[n]);   \
         }                                                                     \
     } while (0)
@@ -255,17 +285,17 @@ static inline void config(struct run *r, const uint32_t *insn)
 static inline void loadi(struct run *r, const uint32_t *insn)
 {
     uint32_t *d = at(r, insn[VD]), imm = insn[IMM];
-    if (insn[MOD] == 8) STORE(imm << 16 | (d[n] & 0x0000FFFF));
-    else STORE((d[n] & 0xFFFF0000) | imm);
+    if (insn[MOD] == 8) WRITE(imm << 16 | (d[n] & 0x0000FFFF));
+    else WRITE((d[n] & 0xFFFF0000) | imm);
 }
 
 static inline void iadd(struct run *r, const uint32_t *insn)
 {
     uint32_t mod = insn[MOD], *d = at(r, insn[VD]), imm = (insn[IMM] ^ 0x800) - 0x800, sets = ~mod & 4, turns = has(mod, 3);
     const uint32_t *c = r->reg[insn[VC]];
-    if (mod & 1) STORE_AND_FLAG(c[n] + imm, sign(word));
-    else if (mod & 2) STORE_AND_FLAG(c[n] - d[n], sign(word));
-    else STORE_AND_FLAG(c[n] + d[n], sign(word));
+    if (mod & 1) WRITE_AND_FLAG(c[n] + imm, sign(word));
+    else if (mod & 2) WRITE_AND_FLAG(c[n] - d[n], sign(word));
+    else WRITE_AND_FLAG(c[n] + d[n], sign(word));
 }
 
 /* From the exponent of the word as a float: with a half more, so that 0 counts as 2^-1, and without the bit after the top one, so that no
@@ -279,14 +309,14 @@ static inline void lz(struct run *r, const uint32_t *insn)
 {
     uint32_t mod = insn[MOD], *d = at(r, insn[VD]), within = mod & 4 ? 0x7FFFFFFF : 0xFFFFFFFF, sets = mod & 2, turns = has(mod, 3);
     const uint32_t *c = r->reg[insn[VC]];
-    STORE_AND_FLAG(leading_zeros(c[n] & within), full(word != 32));
+    WRITE_AND_FLAG(leading_zeros(c[n] & within), full(word != 32));
 }
 
 static inline void exexp(struct run *r, const uint32_t *insn)
 {
     uint32_t mod = insn[MOD], *d = at(r, insn[VD]), bias = mod & 1 ? 0 : 127, sets = mod & 2, turns = has(mod, 3);
     const uint32_t *c = r->reg[insn[VC]];
-    STORE_AND_FLAG((c[n] >> 23 & 0xFF) - bias, sign(word));
+    WRITE_AND_FLAG((c[n] >> 23 & 0xFF) - bias, sign(word));
 }
 
 static inline uint32_t abs_float(uint32_t word) { return word & (0x7FFFFFFF | less(0x7F800000, word & 0x7FFFFFFF)); }
@@ -297,7 +327,7 @@ static inline uint32_t abs_float(uint32_t word) { return word & (0x7FFFFFFF | le
         uint32_t *d = at(r, insn[VD]), mod = insn[MOD];                                 \
         const uint32_t *c = r->reg[insn[VC]], *b = mod ? r->reg[insn[VB]] : d;          \
         (void)b;                                                                        \
-        STORE(value);                                                                   \
+        WRITE(value);                                                                   \
     }
 
 WORD_OPERATION(absolute, mod ? abs_float(c[n]) : negated(sign(c[n]), c[n]))
@@ -307,7 +337,7 @@ WORD_OPERATION(bit_xor, d[n] ^ c[n])
 WORD_OPERATION(bit_not, ~c[n])
 WORD_OPERATION(exman, (c[n] & 0x7FFFFF) | (mod ? 0 : 0x800000))
 
-/* One jump decides by op and by vd: with vd from 8 up, few operations do anything. */
+/* One jump decides by op and by vd: with vd from 8 up, few operations do anything. No op is 0, so STORE and ABOVE may be one number. */
 enum { ABOVE = 16 };
 
 static inline void step(struct run *r, const uint32_t *insn)
@@ -327,6 +357,7 @@ static inline void step(struct run *r, const uint32_t *insn)
     case LZ:     lz(r, insn); break;
     case EXEXP:  exexp(r, insn); break;
     case EXMAN:  exman(r, insn); break;
+    case STORE:  case ABOVE + STORE:  store(r, insn); break;
     case ABOVE + LOAD: advance(r, insn); break;
     default:     break;
     }
@@ -335,27 +366,27 @@ static inline void step(struct run *r, const uint32_t *insn)
 /* What is refused */
 
 /* For each op, with even mods and with odd ones: the bits that its words may not have, and a bit for each mod allowed. */
-#define FIELDS(imm, vb, vc, vd, mods) { {~15u, ~(imm##u), ~(vb##u), ~(vc##u), ~(vd##u), ~15u}, mods }
+#define FIELDS(imm, vb, vc, vd, mods) { {~31u, ~(imm##u), ~(vb##u), ~(vc##u), ~(vd##u), ~15u}, mods }
 #define BOTH(imm, vb, vc, vd, mods) { FIELDS(imm, vb, vc, vd, mods), FIELDS(imm, vb, vc, vd, mods) }
 static const struct fields {
     _Alignas(32) uint32_t over[WORDS];
     uint32_t mods;
-} fields[16][2] = {
+} fields[32][2] = {
     [LOAD] = BOTH(1023, 3, 0, 15, 0xEBE7), [LOADI] = BOTH(65535, 0, 0, 15, 0x0500), [LUT] = BOTH(0, 0, 0, 15, 0x1111),
     [SWAP] = BOTH(0, 0, 15, 15, 0xFFFF), [CONFIG] = BOTH(65535, 0, 0, 15, 0xFFFF), [IADD] = BOTH(4095, 0, 15, 15, 0xFFFF),
     [ABS] = BOTH(0, 0, 15, 15, 0x0003), [AND] = {FIELDS(0, 0, 15, 15, 1), FIELDS(0, 15, 15, 15, 2)},
     [OR] = {FIELDS(0, 0, 15, 15, 1), FIELDS(0, 15, 15, 15, 2)}, [XOR] = BOTH(0, 0, 15, 15, 0x0001), [NOT] = BOTH(0, 0, 15, 15, 0x0001),
     [LZ] = BOTH(0, 0, 15, 15, 0x5555), [EXEXP] = BOTH(0, 0, 15, 15, 0x0F0F), [EXMAN] = BOTH(0, 0, 15, 15, 0x0003),
-    [NOP] = BOTH(0, 0, 0, 0, 0x0001),
+    [NOP] = BOTH(0, 0, 0, 0, 0x0001), [STORE] = BOTH(1023, 3, 0, 15, 0x02C4),
 };
 
 static inline uint32_t insn_fault(const uint32_t *insn)
 {
-    const struct fields *f = &fields[insn[OP] % 16][insn[MOD] % 2];
+    const struct fields *f = &fields[insn[OP] % 32][insn[MOD] % 2];
     uint32_t over = 0;
     for (unsigned k = 0; k < WORDS; k++) over |= insn[k] & f->over[k];
     if (over == 0 && f->mods >> insn[MOD] & 1) return 0;
-    if (insn[OP] < LOAD || insn[OP] > NOP) return 7;
+    if (insn[OP] < LOAD || insn[OP] > STORE) return 7;
     return insn[OP] == LOAD && over == 0 ? 9 : 8;       /* LOAD refuses no mod below 16 by 8 */
 }
 
@@ -386,7 +417,7 @@ static const row register8 = ALL(0x3F56594B), register9 = ALL(0), register10 = A
 static const row register15 = {0,  2,  4,  6,  8,  10, 12, 14, 16, 18, 20, 22, 24, 26, 28, 30,
                                32, 34, 36, 38, 40, 42, 44, 46, 48, 50, 52, 54, 56, 58, 60, 62};
 
-static inline void begin(struct run *r, const uint32_t *settings, uint32_t *image, const uint16_t *dst)
+static inline void begin(struct run *r, const uint32_t *settings, uint32_t *image, uint16_t *dst)
 {
     r->image = image, r->dst = dst, r->stride = settings + 4;
     r->edition = settings[0], r->srcb = settings[1], r->offset = settings[2], r->cursor = settings[3];
@@ -397,7 +428,7 @@ static inline void begin(struct run *r, const uint32_t *settings, uint32_t *imag
     EACH_LANE(n) r->free[n] = use[n] - 1, put_flag(r, n, 0u - flag[n]);
 }
 
-uint32_t plain_run(const uint32_t settings[8], uint32_t *image, size_t image_len, const uint16_t *dst, size_t dst_len,
+uint32_t plain_run(const uint32_t settings[8], uint32_t *image, size_t image_len, uint16_t *dst, size_t dst_len,
                    const uint32_t *list, size_t list_len, uint32_t outcome[4])
 {
     uint32_t place = 0, answer = fault(settings, image, image_len, dst_len, list, list_len, &place), steps = 0, cursor = settings[3];

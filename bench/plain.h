@@ -1,11 +1,12 @@
-/* The run of document 01 in plain C, as fast as C by rows goes: what the proved run is timed against. Same interface as replay_run. */
+/* The run of document 01, and of the requests of document 02 that are in, in plain C, as fast as C by rows goes: what the proved run is
+ * timed against. Same interface as replay_run. */
 #ifndef PLAIN_H
 #define PLAIN_H
 
 #include <stddef.h>
 #include <stdint.h>
 
-uint32_t plain_run(const uint32_t settings[8], uint32_t *image, size_t image_len, const uint16_t *dst, size_t dst_len,
+uint32_t plain_run(const uint32_t settings[8], uint32_t *image, size_t image_len, uint16_t *dst, size_t dst_len,
                    const uint32_t *list, size_t list_len, uint32_t outcome[4]);
 
 #endif

@@ -3,6 +3,9 @@
 
 #include "lists.h"
 
+#include "../tests/independent/independent.h"
+
+#include <stdbool.h>
 #include <stdio.h>
 #include <stdlib.h>
 #include <string.h>
@@ -15,33 +18,66 @@ static double now_ns(void)
     return 1e9 * (double)t.tv_sec + (double)t.tv_nsec;
 }
 
-/* A run from a fresh copy of the image. */
-static void once(run_fn *run, const struct list *l, enum image_kind kind, uint32_t image[LIST_IMAGE], uint32_t outcome[4])
+/* What a run works on, and what it leaves. */
+struct state {
+    _Alignas(64) uint32_t image[LIST_IMAGE];
+    _Alignas(64) uint16_t dst[LIST_DST];
+    uint32_t outcome[4];
+};
+
+static bool same(const struct state *a, const struct state *b)
 {
-    memcpy(image, l->image[kind], sizeof l->image[kind]);
-    run(list_settings, image, LIST_IMAGE, list_dst, LIST_DST, l->words, 6 * l->count, outcome);
+    return memcmp(a->outcome, b->outcome, sizeof a->outcome) == 0 && memcmp(a->image, b->image, sizeof a->image) == 0 &&
+           memcmp(a->dst, b->dst, sizeof a->dst) == 0;
 }
 
+/* A run from a fresh copy of the image, on Dst as it stands. */
+static void once(run_fn *run, const struct list *l, enum image_kind kind, struct state *s)
+{
+    memcpy(s->image, l->image[kind], sizeof s->image);
+    run(list_settings, s->image, LIST_IMAGE, s->dst, LIST_DST, l->words, 6 * l->count, s->outcome);
+}
+
+/* Dst is copied before the clock starts and not for each run, as the copy takes longer than a short list. A run then meets what the one before it
+ * stored, which is the same by every program: each starts from the same Dst, in the same place. */
 static double several(run_fn *run, const struct list *l, enum image_kind kind, unsigned times)
 {
-    uint32_t image[LIST_IMAGE], outcome[4];
+    static struct state s;
+    memcpy(s.dst, list_dst, sizeof s.dst);
     double start = now_ns();
-    for (unsigned t = 0; t < times; t++) once(run, l, kind, image, outcome);
+    for (unsigned t = 0; t < times; t++) once(run, l, kind, &s);
     return (now_ns() - start) / times;
 }
 
 static void must_agree(const struct program *programs, unsigned count, const struct list *l, enum image_kind kind)
 {
-    uint32_t image[2][LIST_IMAGE], outcome[2][4];
-    once(programs[0].run, l, kind, image[0], outcome[0]);
-    for (unsigned i = 1; i < count; i++) {
-        once(programs[i].run, l, kind, image[1], outcome[1]);
-        if (outcome[0][0] == 0 && memcmp(outcome[0], outcome[1], sizeof outcome[0]) == 0 && memcmp(image[0], image[1], sizeof image[0]) == 0)
-            continue;
+    static struct state s[2];
+    for (unsigned i = 0; i < count; i++) {
+        struct state *own = &s[i != 0];
+        memcpy(own->dst, list_dst, sizeof own->dst);
+        once(programs[i].run, l, kind, own);
+        if (s[0].outcome[0] == 0 && same(&s[0], own)) continue;
         fprintf(stderr, "bench: %s and %s do not agree on the list %s (answers %u and %u)\n", programs[0].name, programs[i].name, l->name,
-                (unsigned)outcome[0][0], (unsigned)outcome[1][0]);
+                (unsigned)s[0].outcome[0], (unsigned)own->outcome[0]);
         exit(1);
     }
+}
+
+/* An op that is not known is refused by 7. */
+static bool knows(run_fn *run, uint32_t op)
+{
+    static struct state s;
+    const uint32_t insn[6] = {[F_OP] = op};
+    return run(list_settings, s.image, LIST_IMAGE, s.dst, LIST_DST, insn, 6, s.outcome) != 7;
+}
+
+/* The last op that all know: a commit before M-101 has no STORE. */
+static uint32_t last_known(const struct program *programs, unsigned count)
+{
+    uint32_t last = OPS - 1;
+    for (unsigned i = 0; i < count; i++)
+        while (last > LOAD && !knows(programs[i].run, last)) last--;
+    return last;
 }
 
 struct times { double ns[MAX_PROGRAMS], ratio[MAX_PROGRAMS]; };
@@ -94,7 +130,9 @@ void print_times(const struct program *programs, unsigned count, unsigned rounds
     printf("\n");
 
     const struct list *l;
-    for (unsigned k = 0; (l = make_list(k)) != NULL; k++) {
+    uint32_t last = last_known(programs, count);
+    for (unsigned k = 0; (l = make_list(k, last)) != NULL; k++) {
+        if (l->count == 0) continue;
         struct times mixed = measure(programs, count, l, MIXED, rounds, us), quiet = measure(programs, count, l, QUIET, rounds, us);
         printf("| %-13s |", l->name);
         for (unsigned i = 0; i < count; i++) printf(" %7.1f |", mixed.ns[i]);
