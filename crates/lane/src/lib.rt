@@ -18,6 +18,8 @@ pub mod config;
 pub mod compute;
 // The refusals.
 pub mod refuse;
+// A lane's two cells of Dst after an instruction.
+mod dst;
 // One instruction in one lane.
 pub mod step;
 

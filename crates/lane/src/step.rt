@@ -16,6 +16,8 @@ use crate::config::lane_config_after;
 use crate::config::misc_after;
 use crate::config::passed_over;
 use crate::config::value_of;
+use crate::dst::is_exchanged;
+use crate::dst::lane_cells;
 use crate::load::address;
 use crate::load::captures;
 use crate::load::immediate;
@@ -29,7 +31,6 @@ use crate::lut::lut_register;
 use crate::lut::lut_result;
 use crate::lut::lut_word;
 use crate::refuse::lane_answer;
-use crate::store::stored_cell;
 use crate::swap::acts;
 use crate::swap::in_mask;
 use crate::swap::mask_of;
@@ -45,9 +46,8 @@ use crate::words::fixed_word;
 ghost use mathlib.Core.Path.{_≡_};
 ghost use mathlib.Core.List.{[], _∷_};
 ghost use Prim.Native.Nat.{_+_};
-ghost use Rattle.lane.specs.Words.{pick, bit, reg, laneOf, wordsAfter};
+ghost use Rattle.lane.specs.Words.{pick, reg, laneOf, wordsAfter};
 ghost use Rattle.lane.specs.Load as Load;
-ghost use Rattle.lane.specs.Store as Store;
 ghost use Rattle.lane.specs.Swap as Swap;
 ghost use Rattle.lane.specs.Lut as Lut;
 ghost use Rattle.lane.specs.Config as Config;
@@ -56,7 +56,7 @@ ghost use Rattle.lane.specs.Rule as Rule;
 ghost use Rattle.lane.specs.Refusals as Refusals;
 
 // The word of register `r`.
-fn register(own: &[u32; 24], lane: u8, r: u32) -> u32
+pub(crate) fn register(own: &[u32; 24], lane: u8, r: u32) -> u32
     ensures { λ w. ⌜ w ≡ reg lane (laneOf (now (own .entry))) r ⌝ }
 {
     if r < 8 {
@@ -158,45 +158,6 @@ fn load_lane(
     let odd = is_odd(a, exchanged);
     let cell = cell_of(odd, even_cell, odd_cell);
     load_cell(own, i.vd, resolved(srcb, i.md), cell, place(a, lane, odd))
-}
-
-// Two cells with another in the place of one.
-fn with_cell(odd: bool, cell: u16, even_cell: u16, odd_cell: u16) -> Cells
-    ensures { λ r. ⌜ r ≡ Store.withCell odd cell «even_cell» «odd_cell» ⌝ }
-{
-    if odd {
-        Cells {
-            even: even_cell,
-            odd: cell,
-        }
-    } else {
-        Cells {
-            even: cell,
-            odd: odd_cell,
-        }
-    }
-}
-
-// STORE.
-fn store_lane(
-    a: u16,
-    i: Insn,
-    lane: u8,
-    exchanged: bool,
-    even_cell: u16,
-    odd_cell: u16,
-    own: [u32; 24],
-) -> Cells
-    ensures { λ r. ⌜ r ≡ Store.store a i lane exchanged «even_cell» «odd_cell» (laneOf own) ⌝ }
-{
-    if enabled(own[USE_FLAG], own[LANE_FLAG]) {
-        let cell = stored_cell(i.md, register(&own, lane, i.vd));
-        return with_cell(is_odd(a, exchanged), cell, even_cell, odd_cell);
-    }
-    Cells {
-        even: even_cell,
-        odd: odd_cell,
-    }
 }
 
 // LOADI.
@@ -397,13 +358,6 @@ fn lanewise_words(
     }
 }
 
-// Bit 5 of row 0's LaneConfig.
-fn is_exchanged(head: [u32; 24]) -> bool
-    ensures { λ r. ⌜ r ≡ bit (laneOf head 12) 5 ⌝ }
-{
-    head[LANE_CONFIG] / 32 % 2 == 1
-}
-
 // Any operation, at the address that the settings give.
 fn lane_words(
     s: Settings,
@@ -423,28 +377,6 @@ fn lane_words(
     let a = address(i.imm, s.offset, s.cursor);
     let exchanged = is_exchanged(head);
     lanewise_words(op, s.srcb, a, i, lane, exchanged, even_cell, odd_cell, own)
-}
-
-// The two cells after any operation, at the address that the settings give.
-fn lane_cells(
-    s: Settings,
-    i: Insn,
-    lane: u8,
-    head: [u32; 24],
-    even_cell: u16,
-    odd_cell: u16,
-    own: [u32; 24],
-) -> Cells
-    ensures { λ r. ⌜ r ≡ Rule.cellsOf (i .op) (Load.address (i .imm) (s .offset) (s .cursor)) i lane (bit (laneOf head 12) 5) «even_cell» «odd_cell» (laneOf own) ⌝ }
-{
-    if i.op == 16 {
-        let a = address(i.imm, s.offset, s.cursor);
-        return store_lane(a, i, lane, is_exchanged(head), even_cell, odd_cell, own);
-    }
-    Cells {
-        even: even_cell,
-        odd: odd_cell,
-    }
 }
 
 // The lane rules: a refusal with the words and the cells as given, or 0 with those after.

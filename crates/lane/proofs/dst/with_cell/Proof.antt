@@ -1,8 +1,8 @@
 use Rattle.lane.proofs.Cases.{if-true, if-false}
-use Rattle.lane.proofs.step.with_cell.Statement.{statement}
+use Rattle.lane.proofs.dst.with_cell.Statement.{statement}
 use Rattle.lane.specs.Store.{withCell}
 use mathlib.Core.Path.{refl}
-use Rattle.lane.proofs.step.with_cell.Tie as tie
+use Rattle.lane.proofs.dst.with_cell.Tie as tie
 
 returns : tie.Need-returns
 unfolding withCell

@@ -1,9 +1,9 @@
 use borrow.Author.Needs.{needs}
 use mathlib.Core.Path.{refl}
 use Rattle.lane.proofs.Cases.{if-true, if-false}
-use Rattle.lane.proofs.step.store_lane.Statement.{statement}
+use Rattle.lane.proofs.dst.store_lane.Statement.{statement}
 use Rattle.lane.specs.Store.{store}
-use Rattle.lane.proofs.step.store_lane.Tie as tie
+use Rattle.lane.proofs.dst.store_lane.Tie as tie
 
 array-read-enabled : tie.Need-array-read-enabled
 array-read-enabled c = search needs

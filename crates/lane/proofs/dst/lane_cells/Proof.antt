@@ -1,9 +1,9 @@
 use borrow.Author.Needs.{needs}
 use mathlib.Core.Path.{refl}
 use Rattle.lane.proofs.Cases.{if-eq, if-ne}
-use Rattle.lane.proofs.step.lane_cells.Statement.{statement}
+use Rattle.lane.proofs.dst.lane_cells.Statement.{statement}
 use Rattle.lane.specs.Rule.{cellsOf}
-use Rattle.lane.proofs.step.lane_cells.Tie as tie
+use Rattle.lane.proofs.dst.lane_cells.Tie as tie
 
 address-requires : tie.Need-address-requires
 address-requires c κs = search needs
