@@ -39,11 +39,12 @@ columnOf L odd = 2 * (L % 8) + flagOf odd
 unfoldable pub placeOf : ℕ → ℕ → Bool → ℕ
 placeOf a L odd = rowOf a L * 16 + columnOf L odd
 
--- The other way round: the cell at p is in row p div 16 and column p mod 16. At the addresses whose four rows hold it, it is one of the cells of the
--- lane in row p div 16 mod 4 and column p mod 16 div 2.
+-- The other way round: the cell at p is in row p div 16 and column p mod 16. The four rows that an address meets hold it if both rows are the same but for
+-- their low two bits;
 abbrev pub isMet : ℕ → ℕ → Bool
 isMet a p = eqb (p / 16 / 4) (a / 4)
 
+-- then it is one of the two cells of the lane in row p div 16 mod 4 and column p mod 16 div 2.
 abbrev pub ownerOf : ℕ → ℕ
 ownerOf p = 8 * (p / 16 % 4) + p % 16 / 2
 
