@@ -149,42 +149,36 @@ finish-is = (refl, refl)
 
 -- ---- lane 0 after LOAD: register 0 holds the cell, LaneConfig and UseFlag are 0 as before
 
-module _ (s : Settings) (head own : Lane) (even odd : ℕ) (h : head 12 ≡ 0) (c : own 12 ≡ 0) (u : own 14 ≡ 0) where
-  loads-even : after (storesOf 1 s 0 loading 0 head even odd own) own 0 ≡ even
-  unfolding storesOf lanewise load loadWith loaded resolved after upd pick
-  loads-even = simp (h, c, u)
-
-  loads-config : after (storesOf 1 s 0 loading 0 head even odd own) own 12 ≡ 0
-  unfolding storesOf lanewise load loadWith loaded resolved after upd pick
-  loads-config = simp (h, c, u)
-
-  loads-use : after (storesOf 1 s 0 loading 0 head even odd own) own 14 ≡ 0
-  unfolding storesOf lanewise load loadWith loaded resolved after upd pick
-  loads-use = simp (h, c, u)
+loads-even : (s : Settings) (head own : Lane) (even odd : ℕ) → head 12 ≡ 0 → own 12 ≡ 0 → own 14 ≡ 0 → (t : ℕ)
+    → after (storesOf 1 s 0 loading 0 head even odd own) own t ≡ pick (eqb t 0) even (own t)
+unfolding storesOf lanewise load loadWith loaded resolved after upd pick
+loads-even s head own even odd h c u t = simp (h, c, u)
 
 zero-at : (s : ℕ) → s < 24 → laneIn (ofLanes zeros) 0 s ≡ 0
 zero-at s l = lane-of-lanes zeros 0 s (omega arith) l
 
-lane-1 : (t : ℕ) → t < 24
-    → laneIn image-1 0 t
-    ≡ after (storesOf 1 plainly 0 loading 0 (laneIn (ofLanes zeros) 0) (evenCell one-dst 0 0) (oddCell one-dst 0 0) (laneIn (ofLanes zeros) 0)) (laneIn (ofLanes zeros) 0) t
+lane-1 : (t : ℕ) → t < 24 → laneIn image-1 0 t ≡ pick (eqb t 0) (evenCell one-dst 0 0) (laneIn (ofLanes zeros) 0 t)
 unfolding image-1 imageAfter imageAt laneAfter
-lane-1 t l = lane-of-lanes (laneAfter plainly loading 0 (ofLanes zeros) one-dst) 0 t (omega arith) l
+lane-1 t l =
+    lane-of-lanes (laneAfter plainly loading 0 (ofLanes zeros) one-dst) 0 t (omega arith) l
+    ∙ loads-even plainly (laneIn (ofLanes zeros) 0) (laneIn (ofLanes zeros) 0) (evenCell one-dst 0 0) (oddCell one-dst 0 0) (zero-at 12 (omega arith))
+    (zero-at 12 (omega arith)) (zero-at 14 (omega arith)) t
 
 first-cell : evenCell one-dst 0 0 ≡ 9
 unfolding one-dst pick
 first-cell = ap (λ (k : ℕ). getD one-dst k 0) (sym (even-place 0 0)) ∙ getD-build 16384 nine 0 (omega arith)
 
 word-1 : laneIn image-1 0 0 ≡ 9
-word-1 =
-    lane-1 0 (omega arith)
-    ∙ loads-even plainly _ _ (evenCell one-dst 0 0) _ (zero-at 12 (omega arith)) (zero-at 12 (omega arith)) (zero-at 14 (omega arith)) ∙ first-cell
+unfolding pick
+word-1 = lane-1 0 (omega arith) ∙ first-cell
 
 config-1 : laneIn image-1 0 12 ≡ 0
-config-1 = lane-1 12 (omega arith) ∙ loads-config plainly _ _ _ _ (zero-at 12 (omega arith)) (zero-at 12 (omega arith)) (zero-at 14 (omega arith))
+unfolding pick
+config-1 = lane-1 12 (omega arith) ∙ zero-at 12 (omega arith)
 
 use-1 : laneIn image-1 0 14 ≡ 0
-use-1 = lane-1 14 (omega arith) ∙ loads-use plainly _ _ _ _ (zero-at 12 (omega arith)) (zero-at 12 (omega arith)) (zero-at 14 (omega arith))
+unfolding pick
+use-1 = lane-1 14 (omega arith) ∙ zero-at 14 (omega arith)
 
 -- ---- and after STORE: the register stays, and the cell holds it
 

@@ -1,6 +1,6 @@
 -- Demand 3. No operation is looked at: a lane's rule is handed its own words, row 0's words of its column and its two cells, so equal ones give
 -- equal lanes and equal cells. Assumes nothing.
-use mathlib.Core.Path.{_≡_, refl, sym, ap, _∙_}
+use mathlib.Core.Path.{_≡_, refl, sym, ap, _∙_, subst}
 use Prim.Native.Nat.{ℕ, zero, suc, _%_, _<_}
 use native.Mathlib.Omega.{arith}
 use mathlib.Core.Bool.{Bool, true, false}
@@ -124,15 +124,14 @@ outcomes-same s list a b d e wa wb ld le =
     ∙ ap (λ (x : ℕ). pick {X = Outcome} (eqb (runAnswer s b e list .answer) 0) (record { answer = 0; steps = countOf list; place = 0; cursor = x }) (record { answer = runAnswer s b e list .answer; steps = 0; place = runAnswer s b e list .place; cursor = s .cursor }))
     (cursor-same s list a b d e (countOf list))
 
-picked : (c : ℕ) (t : Bool) (x y a b : List ℕ) → SameColumn c x y → SameColumn c a b → SameColumn c (pick t x a) (pick t y b)
+-- one choice made twice keeps a relation, and so do equations
+picked : (R : List ℕ → List ℕ → Type 0) (t : Bool) (x y a b : List ℕ) → R x y → R a b → R (pick t x a) (pick t y b)
 unfolding pick
-picked c true x y a b h k = h
-picked c false x y a b h k = k
+picked R true x y a b h k = h
+picked R false x y a b h k = k
 
-picked-cells : (c : ℕ) (t : Bool) (x y a b : List ℕ) → SameCells c x y → SameCells c a b → SameCells c (pick t x a) (pick t y b)
-unfolding pick
-picked-cells c true x y a b h k = h
-picked-cells c false x y a b h k = k
+through : (R : List ℕ → List ℕ → Type 0) (x y a b : List ℕ) → x ≡ a → y ≡ b → R a b → R x y
+through R x y a b p q h = subst (λ (z : List ℕ). R z y) (sym p) (subst (λ (z : List ℕ). R a z) (sym q) h)
 
 left-same : (c : ℕ) (s : Settings) (list a b d e : List ℕ) → WellFormedImage a → WellFormedImage b → length d ≡ 16384 → length e ≡ 16384
     → SameColumn c a b → SameCells c d e
@@ -141,18 +140,9 @@ unfolding runImage runDst
 left-same c s list a b d e wa wb ld le h k =
     let j = steps-isolated c s list a b d e (wa .long) (wb .long) h k (countOf list) in
     rw (answers-same s list a b d e wa wb ld le) (
-      picked c (eqb (runAnswer s b e list .answer) 0) (finish s a d list .image) (finish s b e list .image) a b (j .0) h,
-      picked-cells c (eqb (runAnswer s b e list .answer) 0) (finish s a d list .dst) (finish s b e list .dst) d e (j .1) k,
+      picked (SameColumn c) (eqb (runAnswer s b e list .answer) 0) (finish s a d list .image) (finish s b e list .image) a b (j .0) h,
+      picked (SameCells c) (eqb (runAnswer s b e list .answer) 0) (finish s a d list .dst) (finish s b e list .dst) d e (j .1) k,
     )
-
--- images and Dsts that are equal to others agree where those do
-same-through : (c : ℕ) (x y a b : List ℕ) → x ≡ a → y ≡ b → SameColumn c a b → SameColumn c x y
-unfolding SameColumn
-same-through c x y a b p q h L s l r m = ap (λ (z : List ℕ). laneIn z L s) p ∙ h L s l r m ∙ sym (ap (λ (z : List ℕ). laneIn z L s) q)
-
-cells-through : (c : ℕ) (x y a b : List ℕ) → x ≡ a → y ≡ b → SameCells c a b → SameCells c x y
-unfolding SameCells
-cells-through c x y a b p q h n l r = ap (λ (z : List ℕ). getD z n 0) p ∙ h n l r ∙ sym (ap (λ (z : List ℕ). getD z n 0) q)
 
 pub isolation : Isolated
 unfolding Isolated
@@ -160,7 +150,7 @@ isolation c s list a b d e o p x y u v wa wb ld le h k r q =
     let j = left-same c s list a b d e wa wb ld le h k in (
       r .outcome-is ∙ outcomes-same s list a b d e wa wb ld le ∙ sym (q .outcome-is),
       (
-        same-through c x y (runImage s a d list) (runImage s b e list) (r .image-is) (q .image-is) (j .0),
-        cells-through c u v (runDst s a d list) (runDst s b e list) (r .dst-is) (q .dst-is) (j .1),
+        through (SameColumn c) x y (runImage s a d list) (runImage s b e list) (r .image-is) (q .image-is) (j .0),
+        through (SameCells c) u v (runDst s a d list) (runDst s b e list) (r .dst-is) (q .dst-is) (j .1),
       ),
     )

@@ -2,7 +2,7 @@
 //
 // Public is what another crate calls. All of it is total: it has a promise and no `requires`. The promises cite specs/, which renders document 01.
 
-// The registers never stored, enabled, and what a store does to a lane's 24 words.
+// A lane's 24 words: the slots, the registers, enabled.
 pub mod words;
 // LOAD's address, conversions and cursor; LOADI.
 pub mod load;

@@ -28,12 +28,18 @@ pub fn stride(s: Settings, vb: u32) -> u32
     }
 }
 
+// Whether an operation meets Dst: LOAD and STORE.
+pub fn meets_dst(op: u32) -> bool
+    ensures { λ r. ⌜ r ≡ Load.meetsDst op ⌝ }
+{
+    (op == 1) | (op == 16)
+}
+
 // The cursor after an instruction whose `vb` chose the stride `chosen`.
 pub fn next_cursor(op: u32, cursor: u32, chosen: u32) -> u32
     ensures { λ r. ⌜ r ≡ Load.nextCursor op cursor chosen ⌝ }
 {
-    let meets_dst = (op == 1) | (op == 16);
-    if meets_dst {
+    if meets_dst(op) {
         (cursor % 1024 + chosen % 1024) % 1024
     } else {
         cursor

@@ -42,11 +42,11 @@ use crate::words::SEQUENCE;
 use crate::words::TEMPLATE;
 use crate::words::USE_FLAG;
 use crate::words::enabled;
-use crate::words::fixed_word;
+use crate::words::register;
 ghost use mathlib.Core.Path.{_≡_};
 ghost use mathlib.Core.List.{[], _∷_};
 ghost use Prim.Native.Nat.{_+_};
-ghost use Rattle.lane.specs.Words.{pick, reg, laneOf, wordsAfter};
+ghost use Rattle.lane.specs.Words.{pick, laneOf, wordsAfter};
 ghost use Rattle.lane.specs.Load as Load;
 ghost use Rattle.lane.specs.Swap as Swap;
 ghost use Rattle.lane.specs.Lut as Lut;
@@ -54,22 +54,6 @@ ghost use Rattle.lane.specs.Config as Config;
 ghost use Rattle.lane.specs.Compute as Compute;
 ghost use Rattle.lane.specs.Rule as Rule;
 ghost use Rattle.lane.specs.Refusals as Refusals;
-
-// The word of register `r`.
-pub(crate) fn register(own: &[u32; 24], lane: u8, r: u32) -> u32
-    ensures { λ w. ⌜ w ≡ reg lane (laneOf (now (own .entry))) r ⌝ }
-{
-    if r < 8 {
-        return own[r as usize];
-    }
-    if r <= 10 {
-        return fixed_word(r, lane);
-    }
-    if r < 15 {
-        return own[(r - 3) as usize];
-    }
-    fixed_word(r, lane)
-}
 
 // One store; a slot past the last is none.
 fn put(own: [u32; 24], slot: u32, word: u32) -> [u32; 24]

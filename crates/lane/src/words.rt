@@ -1,4 +1,4 @@
-// A lane's words: the slots, the registers never stored, enabled.
+// A lane's words: the slots, the registers, stored and never stored, enabled.
 ghost use mathlib.Core.Path.{_≡_};
 ghost use Rattle.lane.specs.Words as Words;
 
@@ -42,4 +42,20 @@ pub fn fixed_word(r: u32, lane: u8) -> u32
     } else {
         2 * (lane as u32)
     }
+}
+
+// The word of register `r`.
+pub(crate) fn register(own: &[u32; 24], lane: u8, r: u32) -> u32
+    ensures { λ w. ⌜ w ≡ Words.reg lane (Words.laneOf (now (own .entry))) r ⌝ }
+{
+    if r < 8 {
+        return own[r as usize];
+    }
+    if r <= 10 {
+        return fixed_word(r, lane);
+    }
+    if r < 15 {
+        return own[(r - 3) as usize];
+    }
+    fixed_word(r, lane)
 }

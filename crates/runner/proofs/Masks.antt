@@ -1,12 +1,15 @@
--- Masks: a word of ones or of zeros picks between two words by exclusive or. Assumes nothing.
-use mathlib.Core.Path.{_≡_, refl, ap, _∙_}
+-- Masks: a word of ones or of zeros picks between two words by exclusive or, and tells which it is. Assumes nothing.
+use mathlib.Core.Path.{_≡_, refl, sym, ap, _∙_}
 use Prim.Native.Nat.{ℕ, zero, suc, _+_, _*_, _/_, _%_, _^_, _<_}
 use native.Mathlib.Nat.{pow-suc}
 use native.Mathlib.Omega.{arith}
 use mathlib.Core.Bool.{Bool, true, false}
+use mathlib.Core.List.{List}
+use lib.ListN.{getD}
+use lib.Dec.{eqb}
 use lib.Bits.{differ, bitAnd, bitXor, xor-step, xor-shr, xor-mod, xor-lt, xor-zero-r, and-mask, and-zero-r}
 use Rattle.lane.specs.Words.{pick}
-use Rattle.runner.specs.PrivateRows.{full}
+use Rattle.runner.specs.PrivateRows.{full, Masks}
 
 -- ---- exclusive or with the same word twice
 
@@ -53,3 +56,15 @@ masked-is mask new old p q true e =
     small x h = omega arith
 masked-is mask new old p q false e =
     ap (λ (x : ℕ). bitXor old (bitAnd (bitXor old new) x)) e ∙ ap (λ (x : ℕ). bitXor old x) (and-zero-r (bitXor old new)) ∙ xor-zero-r old
+
+-- ---- a mask tells
+
+pub marks : (t : Bool) → eqb (full t) 0xFFFFFFFF ≡ t
+unfolding full pick
+marks true = refl
+marks false = refl
+
+-- words that are the masks of tests are masks
+pub masks-of : (n : ℕ) (t : List ℕ) (f : ℕ → Bool) → ((k : ℕ) → k < n → getD t k 0 ≡ full (f k)) → Masks n t
+unfolding Masks
+masks-of n t f h k l = h k l ∙ ap full (sym (ap (λ (x : ℕ). eqb x 0xFFFFFFFF) (h k l) ∙ marks (f k)))

@@ -1,12 +1,12 @@
 -- STORE over all lanes: a pair of cells as a word, and the halves that the masks open. Assumes nothing.
-use mathlib.Core.Path.{_≡_, refl, sym, ap, _∙_}
+use mathlib.Core.Path.{_≡_, refl, ap, _∙_}
 use Prim.Native.Nat.{ℕ, _+_, _-_, _*_, _/_, _%_, _^_, _<_}
-use native.Mathlib.Nat.{mod-eq-of-lt}
+use native.Mathlib.Nat.{add-zero, add-comm, mod-eq-of-lt}
 use native.Mathlib.Omega.{arith}
 use mathlib.Core.Bool.{Bool, true, false}
 use mathlib.Core.List.{List}
 use lib.ListN.{length, getD, set}
-use lib.Bits.{bitAnd, bitXor, and-mask, and-high, and-zero-r, and-le-l, and-le-r}
+use lib.Bits.{bitAnd, bitXor, and-mask, and-high, and-zero-l, and-zero-r, and-le-l, and-le-r}
 use lib.Dec.{eqb}
 use borrow.Author.Tests.{ne-eqb}
 use Rattle.lane.specs.declared.Insn.{Insn}
@@ -16,12 +16,11 @@ use Rattle.lane.specs.Store.{cells, withCell, storedCell, store}
 use Rattle.lane.proofs.Places.{even-place, odd-place}
 use Rattle.runner.specs.Image.{laneIn}
 use Rattle.runner.specs.Run.{evenCell, oddCell, withCells}
-use Rattle.runner.specs.PrivateRows.{row, full, Enabled}
+use Rattle.runner.specs.PrivateRows.{row, full, marked, Masks, Enabled}
 use Rattle.runner.specs.PrivateLoad.{oddAt, oddIn}
-use Rattle.runner.specs.PrivateSwap.{marked}
-use Rattle.runner.specs.PrivateStore.{pairOf, MaskRow, storedBy}
+use Rattle.runner.specs.PrivateStore.{pairOf, storedBy}
 use Rattle.runner.proofs.Filled.{operand}
-use Rattle.runner.proofs.SwapRows.{marks}
+use Rattle.runner.proofs.Masks.{marks, masks-of}
 use Rattle.runner.proofs.Dsts.{ownCell, cellsIn, cells-same, Celled, pair-more}
 
 -- ---- halves of a word
@@ -52,19 +51,10 @@ halves : (s t : Bool) (cell old : ℕ) → cell < 65536 → old < 2 ^ 32
     → bitAnd old (0xFFFFFFFF - opened s t) + bitAnd (cell * 0x10001) (opened s t) ≡ pick s (pick t (withHigh old cell) (withLow old cell)) old
 unfolding full pick
 halves true true cell old h k =
-    rw (low-half old, high-half (cell * 0x10001) (omega arith), twice-high cell h) (sums (old % 2 ^ 16) (cell * 2 ^ 16))
-  where
-    sums : (x y : ℕ) → x + y ≡ y + x
-    sums x y = omega arith
+    rw (low-half old, high-half (cell * 0x10001) (omega arith), twice-high cell h) (add-comm (old % 2 ^ 16) (cell * 2 ^ 16))
 halves true false cell old h k = rw (high-half old k, low-half (cell * 0x10001), twice-low cell h) refl
-halves false true cell old h k = rw (whole old k, and-zero-r (cell * 0x10001)) (plus-none old)
-  where
-    plus-none : (x : ℕ) → x + 0 ≡ x
-    plus-none x = omega arith
-halves false false cell old h k = rw (whole old k, and-zero-r (cell * 0x10001)) (plus-none old)
-  where
-    plus-none : (x : ℕ) → x + 0 ≡ x
-    plus-none x = omega arith
+halves false t cell old h k =
+    rw (and-zero-l (bitXor (full t) 0xFFFF), whole old k, and-zero-r (cell * 0x10001)) (add-zero old)
 
 pub opened-is : (go odd cell old : ℕ) → cell < 65536 → old < 2 ^ 32 → (s t : Bool) → go ≡ full s → odd ≡ full t
     → bitAnd old (0xFFFFFFFF - bitAnd go (bitXor odd 0xFFFF)) + bitAnd (cell * 0x10001) (bitAnd go (bitXor odd 0xFFFF))
@@ -83,13 +73,12 @@ after-pair : (s t : Bool) (cell even odd both : ℕ) → even < 65536 → odd < 
 unfolding pick withCell
 after-pair true true cell even odd both he ho hc e = (omega arith, omega arith)
 after-pair true false cell even odd both he ho hc e = (omega arith, omega arith)
-after-pair false true cell even odd both he ho hc e = (omega arith, omega arith)
-after-pair false false cell even odd both he ho hc e = (omega arith, omega arith)
+after-pair false t cell even odd both he ho hc e = (omega arith, omega arith)
 
 -- ---- a turn of the loop
 
 module _ (m : ℕ) (words odds go dst : List ℕ) (a : ℕ) (long : length dst ≡ 16384) (h : a < 1024) (small : (k : ℕ) → getD dst k 0 < 65536)
-    (mo : MaskRow odds) (mg : MaskRow go) where
+    (mo : Masks 32 odds) (mg : Masks 32 go) where
   pub store-turn : (olds : List ℕ) (n cell both : ℕ) (now next : List ℕ) → n < 32 → cell < 65536
       → olds ≡ row (λ L. pairOf (getD dst (64 * (a / 4) + 2 * L) 0) (getD dst (64 * (a / 4) + 2 * L + 1) 0))
       → Celled (ownCell (storedBy m words odds go dst a)) (64 * (a / 4)) dst (2 * n) now
@@ -97,7 +86,7 @@ module _ (m : ℕ) (words odds go dst : List ℕ) (a : ℕ) (long : length dst �
       → ((s t : Bool) → getD go n 0 ≡ full s → getD odds n 0 ≡ full t → both ≡ pick s (pick t (withHigh (getD olds n 0) cell) (withLow (getD olds n 0) cell)) (getD olds n 0))
       → next ≡ set (set now (64 * (a / 4) + 2 * n) (both % 65536)) (64 * (a / 4) + 2 * n + 1) (both / 65536)
       → Celled (ownCell (storedBy m words odds go dst a)) (64 * (a / 4)) dst (2 * (n + 1)) next
-  unfolding storedBy MaskRow
+  unfolding storedBy Masks
   store-turn olds n cell both now next l hc eo inv ec p e =
       pair-more (storedBy m words odds go dst a) a dst n (both % 65536) (both / 65536) now next l (omega arith) inv
       (halved .0 ∙ ap (λ (x : ℕ). pick (marked go n) (withCell (marked odds n) x (evenCell dst a n) (oddCell dst a n)) (cellsIn dst a n) .even) ec)
@@ -129,11 +118,6 @@ pub low-mod : (x dst words odds go : List ℕ) (a m : ℕ) → x ≡ withCells a
 unfolding storedBy
 low-mod x dst words odds go a m e n2 n7 = e ∙ cells-same a dst _ _ (λ L l. cc (as-low m (getD words L 0) n2 n7))
 
--- a row of masks
-pub mask-row : (t : List ℕ) (f : ℕ → Bool) → ((n : ℕ) → n < 32 → getD t n 0 ≡ full (f n)) → MaskRow t
-unfolding MaskRow
-mask-row t f h n l = h n l ∙ ap full (sym (ap (λ (x : ℕ). eqb x 0xFFFFFFFF) (h n l) ∙ marks (f n)))
-
 -- STORE by its rows is STORE
 pub store-made : (image dst x words odds go : List ℕ) (a : ℕ) (i : Insn) → x ≡ withCells a dst (storedBy (i .md) words odds go dst a)
     → words ≡ row (λ L. reg L (laneIn image L) (i .vd))
@@ -151,9 +135,9 @@ store-made image dst x words odds go a i e ew eo eg =
       ap (λ (x : ℕ). eqb x 0xFFFFFFFF) (eg .mask-is L l) ∙ marks (enabled (laneIn image L)),
     ))
 
-pub odds-masks : (image odds : List ℕ) (a : ℕ) → odds ≡ oddIn image a → MaskRow odds
+pub odds-masks : (image odds : List ℕ) (a : ℕ) → odds ≡ oddIn image a → Masks 32 odds
 unfolding oddIn
-odds-masks image odds a e = mask-row odds (oddAt image a) (λ n l. operand odds _ e n l)
+odds-masks image odds a e = masks-of 32 odds (oddAt image a) (λ n l. operand odds _ e n l)
 
-pub go-masks : (image go : List ℕ) → Enabled go image → MaskRow go
-go-masks image go h = mask-row go (λ n. enabled (laneIn image n)) (h .mask-is)
+pub go-masks : (image go : List ℕ) → Enabled go image → Masks 32 go
+go-masks image go h = masks-of 32 go (λ n. enabled (laneIn image n)) (h .mask-is)

@@ -20,8 +20,9 @@ use Rattle.lane.proofs.Ranks.{swaps-is}
 use Rattle.lane.proofs.Tables.{and-left}
 use Rattle.lane.proofs.Stores.{length-build, getD-build, upd-same, upd-other, after-append}
 use Rattle.runner.specs.Image.{laneIn}
-use Rattle.runner.specs.PrivateRows.{storing, storingIn, row, full, Enabled}
-use Rattle.runner.specs.PrivateSwap.{key, swapsBy, part, maskRows, marked, Masks, NoIndex, storedUnder, exchanged, masksAt, storedTo, storedBoth}
+use Rattle.runner.specs.PrivateRows.{storing, storingIn, row, full, Enabled, marked, Masks}
+use Rattle.runner.specs.PrivateSwap.{key, swapsBy, part, maskRows, NoIndex, storedUnder, exchanged, masksAt, storedTo, storedBoth}
+use Rattle.runner.proofs.Masks.{marks, masks-of}
 use Rattle.runner.proofs.Lanes.{split, same-lanes, own-lanes, storing-same, storing-then, lane-storing, storing-none, in-then}
 use Rattle.runner.proofs.Filled.{Spread, none-below, spread-start, put-holds, operand}
 use Rattle.runner.proofs.Enabled.{quiet-enabled}
@@ -89,11 +90,6 @@ rest-full true true = refl
 rest-full true false = refl
 rest-full false true = refl
 rest-full false false = refl
-
-pub marks : (t : Bool) → eqb (full t) 0xFFFFFFFF ≡ t
-unfolding full pick
-marks true = refl
-marks false = refl
 
 -- the mask of a lane, m being the mask of its tests but for `enabled`
 pub mask-made : (go m kc kd c d : ℕ) (always acting minimum reversed e : Bool) → c < 2 ^ 32 → d < 2 ^ 32 → kc ≡ key c → kd ≡ key d
@@ -185,9 +181,8 @@ module _ (E T ix : ℕ → Bool) where
     marked-at : (q L k : ℕ) → q < 4 → L < 32 → k ≡ 32 * q + L → marked t k ≡ part q (E L) (T L) (ix L)
     marked-at q L k hq l p = ap (λ (x : ℕ). eqb x 0xFFFFFFFF) (mask-at k (omega arith) ∙ sym (mask-in q L k l p)) ∙ marks _
 
-    pub are-masks : Masks t
-    unfolding Masks
-    are-masks k l = mask-at k l ∙ ap full (sym (ap (λ (x : ℕ). eqb x 0xFFFFFFFF) (mask-at k l) ∙ marks _))
+    pub are-masks : Masks 128 t
+    are-masks = masks-of 128 t (λ k. part (k / 32) (E (k % 32)) (T (k % 32)) (ix (k % 32))) mask-at
 
 -- the first row is as it was
 still-enabled : (image t : List ℕ) (T ix : ℕ → Bool) → t ≡ maskRows (λ L. enabled (laneIn image L)) T ix → Enabled t image
@@ -251,7 +246,7 @@ chosen-first p q false true own h = ap (λ (f : Lane). upd f q (own p)) (upd-hel
 chosen-first p q false false own h = ap (λ (f : Lane). upd f q (own q)) (upd-held own p (own p) refl) ∙ upd-held own q (own q) refl
 
 -- one lane's part of an exchange, both words chosen before the first store
-pub exchange-in : (image x y : List ℕ) (n p q a b w v f g : ℕ) (t : List ℕ) → Masks t → (p ≡ q → ⊥) → a < 128 → b < 128
+pub exchange-in : (image x y : List ℕ) (n p q a b w v f g : ℕ) (t : List ℕ) → Masks 128 t → (p ≡ q → ⊥) → a < 128 → b < 128
     → w ≡ laneIn image n p → v ≡ laneIn image n q
     → ((s : Bool) → getD t a 0 ≡ full s → f ≡ pick s v w)
     → ((s : Bool) → getD t b 0 ≡ full s → g ≡ pick s w v)
@@ -263,7 +258,7 @@ exchange-in image x y n p q a b w v f g t m h ha hb ew ev ef eg ex ey =
     in-then image x y n ((p, f) ∷ []) ((q, g) ∷ []) (ex true refl) (ey true refl)
     ∙ rw (ef (marked t a) (m a ha), eg (marked t b) (m b hb), ew, ev) (in-same image n _ _ (chosen-first p q (marked t a) (marked t b) (laneIn image n) h))
 
-pub store-in : (image x words : List ℕ) (n p a : ℕ) (t : List ℕ) → Masks t → a < 128
+pub store-in : (image x words : List ℕ) (n p a : ℕ) (t : List ℕ) → Masks 128 t → a < 128
     → ((s : Bool) → getD t a 0 ≡ full s → x ≡ storingIn image n (pick s ((p, getD words n 0) ∷ []) []))
     → x ≡ storingIn image n (storedUnder p (marked t a) (getD words n 0))
 unfolding Masks

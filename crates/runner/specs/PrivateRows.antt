@@ -25,6 +25,14 @@ row f = build 32 f
 unfoldable pub full : Bool → ℕ
 full t = pick t 0xFFFFFFFF 0
 
+-- Whether the mask at k is set.
+abbrev pub marked : List ℕ → ℕ → Bool
+marked t k = eqb (getD t k 0) 0xFFFFFFFF
+
+-- Each of the first n words is a mask.
+unfoldable pub Masks : ℕ → List ℕ → Type 0
+Masks n t = (k : ℕ) → k < n → getD t k 0 ≡ full (marked t k)
+
 -- A run's four rows of masks: the first is of the lanes that are enabled in its image.
 pub record Enabled (go image : List ℕ) : Type 0 where
   pub size : length go ≡ 128

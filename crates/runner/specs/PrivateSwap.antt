@@ -8,7 +8,7 @@ use lib.ListN.{getD}
 use lib.Dec.{eqb, ltb}
 use Rattle.lane.specs.Words.{pick, bit, Lane, Stores, build, enabled, laneConfig, reg}
 use Rattle.lane.specs.Swap.{swaps, inMask}
-use Rattle.runner.specs.PrivateRows.{full}
+use Rattle.runner.specs.PrivateRows.{full, marked}
 
 -- A word's place in the order of ranks, the lowest 0.
 unfoldable pub key : ℕ → ℕ
@@ -27,14 +27,6 @@ part q e t ix = pick (eqb q 0) e (pick (eqb q 1) t (pick (eqb q 2) (t && not ix)
 -- The four rows of masks, one after the other.
 unfoldable pub maskRows : (ℕ → Bool) → (ℕ → Bool) → (ℕ → Bool) → List ℕ
 maskRows E T ix = build 128 (λ k. full (part (k / 32) (E (k % 32)) (T (k % 32)) (ix (k % 32))))
-
--- Whether the mask at k is set.
-abbrev pub marked : List ℕ → ℕ → Bool
-marked t k = eqb (getD t k 0) 0xFFFFFFFF
-
--- Each of the 128 words is a mask.
-unfoldable pub Masks : List ℕ → Type 0
-Masks t = (k : ℕ) → k < 128 → getD t k 0 ≡ full (marked t k)
 
 -- No lane swaps with bit 2 set: the last row is all zeros.
 unfoldable pub NoIndex : List ℕ → Type 0

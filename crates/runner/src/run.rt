@@ -17,6 +17,7 @@ use crate::swap::swap;
 use lane::Insn;
 use lane::Settings;
 use lane::load::address;
+use lane::load::meets_dst;
 use lane::load::next_cursor;
 use lane::load::stride;
 ghost use mathlib.Core.Path.{_≡_};
@@ -86,8 +87,7 @@ fn step_lanes(
     requires { ⌜ (length (now image) ≡ 768) × ((length (now dst) ≡ 16384) × (Rows.Enabled (now go) (now image) × (now fixed ≡ Rows.fixedRows))) ⌝ }
     ensures { λ r. ⌜ Steps.Left s i cursor (now (image .entry)) (now (dst .entry)) r (now (image .exit)) (now (dst .exit)) (now (go .exit)) ⌝ }
 {
-    let meets_dst = (i.op == 1) | (i.op == 16);
-    if meets_dst {
+    if meets_dst(i.op) {
         let a = address(i.imm, s.offset, cursor);
         step_dst(s, i, a, image, dst, go, fixed);
         return next_cursor(i.op, cursor, stride(s, i.vb));

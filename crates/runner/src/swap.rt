@@ -93,8 +93,8 @@ fn masks_of(image: &[u32], i: Insn, c: &[u32; 32], d: &[u32; 32], t: &mut [u32])
 // Two different registers exchanged in place: q's word to p under the masks from `a` on, and p's to q under those from `b` on. Both words are
 // chosen before the first store, so that the second reads nothing again.
 fn exchange(image: &mut [u32], p: usize, q: usize, t: &[u32; 128], a: usize, b: usize)
-    requires { ⌜ (length (now image) ≡ 768) × (Swaps.Masks (now t) × ((p ≡ q → ⊥) × (((p < 24) × (q < 24)) × ((a ≤ 96) × (b ≤ 96))))) ⌝ }
-    ensures { λ _. ⌜ now (image .exit) ≡ Rows.storing (now (image .entry)) (λ L. Swaps.exchanged p q (Swaps.marked (now (t .entry)) (a + L)) (Swaps.marked (now (t .entry)) (b + L)) (laneIn (now (image .entry)) L)) ⌝ }
+    requires { ⌜ (length (now image) ≡ 768) × (Rows.Masks 128 (now t) × ((p ≡ q → ⊥) × (((p < 24) × (q < 24)) × ((a ≤ 96) × (b ≤ 96))))) ⌝ }
+    ensures { λ _. ⌜ now (image .exit) ≡ Rows.storing (now (image .entry)) (λ L. Swaps.exchanged p q (Rows.marked (now (t .entry)) (a + L)) (Rows.marked (now (t .entry)) (b + L)) (laneIn (now (image .entry)) L)) ⌝ }
 {
     let mut n: usize = 0;
     while n < 32 {
@@ -108,8 +108,8 @@ fn exchange(image: &mut [u32], p: usize, q: usize, t: &[u32; 128], a: usize, b: 
 
 // A row stored to register p under the masks from `a` on.
 fn store_part(image: &mut [u32], p: usize, t: &[u32; 128], a: usize, words: &[u32; 32])
-    requires { ⌜ (length (now image) ≡ 768) × (Swaps.Masks (now t) × ((p < 24) × (a ≤ 96))) ⌝ }
-    ensures { λ _. ⌜ now (image .exit) ≡ Rows.storing (now (image .entry)) (λ L. Swaps.storedUnder p (Swaps.marked (now (t .entry)) (a + L)) (getD (now (words .entry)) L 0)) ⌝ }
+    requires { ⌜ (length (now image) ≡ 768) × (Rows.Masks 128 (now t) × ((p < 24) × (a ≤ 96))) ⌝ }
+    ensures { λ _. ⌜ now (image .exit) ≡ Rows.storing (now (image .entry)) (λ L. Swaps.storedUnder p (Rows.marked (now (t .entry)) (a + L)) (getD (now (words .entry)) L 0)) ⌝ }
 {
     let mut n: usize = 0;
     while n < 32 {
@@ -127,7 +127,7 @@ fn masks_at(r: u32) -> usize
 
 // The stores to vc and vd, whose rows are `c` and `d`, each only below 8.
 fn store_both(image: &mut [u32], i: Insn, c: &[u32; 32], d: &[u32; 32], t: &[u32; 128])
-    requires { ⌜ (length (now image) ≡ 768) × ((i .vc ≡ i .vd → ⊥) × (Swaps.Masks (now t) × ((now c ≡ Rows.row (λ L. reg L (laneIn (now image) L) (i .vc))) × (now d ≡ Rows.row (λ L. reg L (laneIn (now image) L) (i .vd)))))) ⌝ }
+    requires { ⌜ (length (now image) ≡ 768) × ((i .vc ≡ i .vd → ⊥) × (Rows.Masks 128 (now t) × ((now c ≡ Rows.row (λ L. reg L (laneIn (now image) L) (i .vc))) × (now d ≡ Rows.row (λ L. reg L (laneIn (now image) L) (i .vd)))))) ⌝ }
     ensures { λ _. ⌜ now (image .exit) ≡ Rows.storing (now (image .entry)) (λ L. Swaps.storedBoth (i .vc) (i .vd) (now (t .entry)) L (laneIn (now (image .entry)) L)) ⌝ }
 {
     if i.vc < 8 {

@@ -3,7 +3,8 @@ use Rattle.lane.specs.Words.{Lane}
 use Rattle.runner.proofs.Lanes.{Turned, turn-start, turned-length, turn-more, turn-end}
 use Rattle.runner.proofs.SwapRows.{exchange-in}
 use Rattle.runner.proofs.swap.exchange.Statement.{statement}
-use Rattle.runner.specs.PrivateSwap.{exchanged, marked}
+use Rattle.runner.specs.PrivateRows.{marked}
+use Rattle.runner.specs.PrivateSwap.{exchanged}
 use borrow.Author.Needs.{needs}
 use mathlib.Core.Path.{_∙_, sym}
 use native.Mathlib.Omega.{arith}

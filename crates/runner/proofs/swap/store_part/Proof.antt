@@ -3,7 +3,8 @@ use Rattle.lane.specs.Words.{Lane}
 use Rattle.runner.proofs.Lanes.{Turned, turn-start, turned-length, turn-more, turn-end}
 use Rattle.runner.proofs.SwapRows.{store-in}
 use Rattle.runner.proofs.swap.store_part.Statement.{statement}
-use Rattle.runner.specs.PrivateSwap.{storedUnder, marked}
+use Rattle.runner.specs.PrivateRows.{marked}
+use Rattle.runner.specs.PrivateSwap.{storedUnder}
 use borrow.Author.Needs.{needs}
 use lib.ListN.{getD}
 use mathlib.Core.Path.{_∙_, sym}

@@ -1,8 +1,8 @@
 use borrow.Author.Needs.{needs}
 use borrow.Author.Tests.{lt-ltb, le-ltb}
-use Rattle.lane.proofs.step.register.Statement.{statement}
+use Rattle.lane.proofs.words.register.Statement.{statement}
 use Rattle.lane.specs.Words.{pick, reg}
-use Rattle.lane.proofs.step.register.Tie as tie
+use Rattle.lane.proofs.words.register.Tie as tie
 
 mul-result : tie.Need-mul-result
 mul-result c = search needs
