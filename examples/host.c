@@ -1,4 +1,4 @@
-/* A host in C: runs two lists and looks at registers. examples/build-host builds and runs it. */
+/* A host in C: runs three lists and looks at registers and ties. examples/build-host builds and runs it. */
 #include "replay.h"
 #include "replay_text.h"
 
@@ -21,6 +21,9 @@ static const uint32_t sum[] = {
     REPLAY_OP_IADD,   0, 0,  1,  2,   4,        /* and plus register 1 */
 };
 
+/* Register 2 gets the lesser of the two in every lane, and register 1 the greater. They are equal in lane 0 alone, which is in column 0. */
+static const uint32_t sort[] = {REPLAY_OP_SWAP, 0, 0, 1, 2, 1};
+
 static void show(uint32_t reg)
 {
     const uint32_t *words = image + replay_register_start(REPLAY_IMAGE, reg);
@@ -32,12 +35,15 @@ static void show(uint32_t reg)
 
 static void run(const uint32_t settings[8], const uint32_t *words, size_t len)
 {
-    uint32_t outcome[4];
+    uint32_t outcome[12];
     uint32_t answer = replay_run(settings, image, REPLAY_IMAGE, dst, REPLAY_DST, words, len, outcome);
-    if (answer == REPLAY_DONE)
-        printf("%u steps, cursor %u\n", (unsigned)outcome[REPLAY_OUTCOME_STEPS], (unsigned)outcome[REPLAY_OUTCOME_CURSOR]);
-    else
+    if (answer != REPLAY_DONE) {
         printf("refused by %u at instruction %u: %s\n", (unsigned)answer, (unsigned)outcome[REPLAY_OUTCOME_PLACE], replay_refusal_text(answer));
+        return;
+    }
+    printf("%u steps, cursor %u, ties by column", (unsigned)outcome[REPLAY_OUTCOME_STEPS], (unsigned)outcome[REPLAY_OUTCOME_CURSOR]);
+    for (size_t column = 0; column < REPLAY_COLUMNS; column++) printf(" %u", (unsigned)outcome[REPLAY_OUTCOME_TIES + column]);
+    printf("\n");
 }
 
 int main(void)
@@ -56,6 +62,9 @@ int main(void)
     run(settings, sum, sizeof sum / sizeof *sum);
     show(2);
     show(9);
+
+    run(settings, sort, sizeof sort / sizeof *sort);
+    show(2);
 
     /* Op 17 is none: refused, and image and Dst are as they were, though the first instruction is good. */
     static const uint32_t faulty[] = {REPLAY_OP_LOADI, 7, 0, 0, 1, 10, 17, 0, 0, 0, 0, 0};

@@ -21,7 +21,7 @@ extern "C" {
 
 /* What is replayed: 1000 is document 01 by itself, and 1000 plus n is with the requests up to M-n. A later request may change what a word
  * means, so a host that loads the library at run time compares this with replay_version(). */
-#define REPLAY_VERSION 1101
+#define REPLAY_VERSION 1102
 
 /* The words of an image, the cells of a Dst, the words of the longest list, and the bytes of the longest listing and report. */
 #define REPLAY_IMAGE 768
@@ -30,8 +30,9 @@ extern "C" {
 #define REPLAY_TEXT 46184
 #define REPLAY_REPORT 11188
 
-/* The lanes of a register; lane L is in row L / 8, column L % 8. */
+/* The lanes of a register, and their columns; lane L is in row L / 8, column L % 8. */
 #define REPLAY_LANES 32
+#define REPLAY_COLUMNS 8
 
 /* Answers, the clerk's numbers. */
 enum replay_answer {
@@ -90,13 +91,14 @@ enum replay_setting {
     REPLAY_SETTING_STRIDE3 = 7
 };
 
-/* The words of an outcome; a run's has no length. */
+/* The words of an outcome: a run's are 12, reading's and writing's 5. */
 enum replay_outcome {
     REPLAY_OUTCOME_ANSWER = 0,
     REPLAY_OUTCOME_STEPS = 1,
     REPLAY_OUTCOME_PLACE = 2,
     REPLAY_OUTCOME_CURSOR = 3,
-    REPLAY_OUTCOME_LENGTH = 4
+    REPLAY_OUTCOME_TIES = 4,            /* of a run: eight words, column 0 first */
+    REPLAY_OUTCOME_LENGTH = 4           /* of reading and writing */
 };
 
 /* Where each part of an image begins, 32 words each, lane 0 first. The 24 words of one lane are in the same order: slot AT / 32. */
@@ -133,13 +135,16 @@ enum replay_at {
  *   image     768 words, by enum replay_at
  *   dst       16,384 cells, row by row, 16 in a row; LOAD reads it and STORE writes it
  *   list      six words an instruction, by enum replay_insn
- *   outcome   answer, steps, place, cursor
+ *   outcome   answer, steps, place, cursor, and the ties of columns 0 to 7
  *
- * Done: image and Dst are those after the list, steps is the number of instructions, place 0, and cursor the final one.
- * Refused, by 1 to 9: image and Dst are untouched, steps is 0, cursor the one given, and place the index of the instruction from 0 for 7
- * to 9, else 0. */
+ * Done: image and Dst are those after the list, steps is the number of instructions, place 0, and cursor the final one. The ties of a
+ * column are counted over the list: in each SWAP with mod other than 0, each of its four lanes that is enabled, acts (vd is below 12, or
+ * bit 4 of its LaneConfig is set) and holds one and the same word in vc and vd. Lanes count as they are before the instruction; vc and vd
+ * may be the same register.
+ * Refused, by 1 to 9: image and Dst are untouched, steps is 0, cursor the one given, place the index of the instruction from 0 for 7 to 9,
+ * else 0, and all eight ties are 0. */
 uint32_t replay_run(const uint32_t settings[8], uint32_t *image, size_t image_len, uint16_t *dst, size_t dst_len,
-                    const uint32_t *list, size_t list_len, uint32_t outcome[4]);
+                    const uint32_t *list, size_t list_len, uint32_t outcome[12]);
 
 /* One instruction in one lane.
  *

@@ -5,7 +5,7 @@ Words are array('I'), cells array('H'), texts bytes. An image and a Dst are chan
     settings, words, outcome = read(open("examples/store-and-load.lst", "rb").read())
     state, cells = image(), dst()
     outcome = run(settings, state, cells, words)
-    print(outcome.text, register(state, 0), cells[:16])
+    print(outcome.text, register(state, 0), cells[:16], outcome.ties)
 
 The library is REPLAY_LIBRARY where that is set, else the one of the prefix or the repository that this file is in. It is for x86-64.
 """
@@ -15,8 +15,8 @@ import os
 from array import array
 from dataclasses import astuple, dataclass
 
-VERSION = 1101
-IMAGE, DST, LIST, TEXT, REPORT, LANES = 768, 16384, 6144, 46184, 11188, 32
+VERSION = 1102
+IMAGE, DST, LIST, TEXT, REPORT, LANES, COLUMNS = 768, 16384, 6144, 46184, 11188, 32, 8
 
 # The ops by number, and the answers in the clerk's words.
 OPS = (None, "LOAD", "LOADI", "LUT", "SWAP", "CONFIG", "IADD", "ABS", "AND", "OR", "XOR", "NOT", "LZ", "EXEXP", "EXMAN", "NOP", "STORE")
@@ -50,11 +50,14 @@ class Settings:
 
 @dataclass
 class Outcome:
+    """Of a run, `ties` has eight counts, column 0 first, all 0 on a refusal; only reading and writing have a length."""
+
     answer: int
     steps: int
     place: int
     cursor: int
     length: int = 0
+    ties: tuple = ()
 
     @property
     def done(self):
@@ -77,9 +80,9 @@ def dst():
 
 def run(settings, image, dst, words):
     """Runs a list, six words an instruction, over an image and a Dst, which it changes in place."""
-    words, outcome = array("I", words), _zeros(4)
-    _library.replay_run(_settings(settings), *_part(image, "I"), *_part(dst, "H"), *_part(words, "I"), _fixed(outcome, 4))
-    return Outcome(*outcome)
+    words, outcome = array("I", words), _zeros(12)
+    _library.replay_run(_settings(settings), *_part(image, "I"), *_part(dst, "H"), *_part(words, "I"), _fixed(outcome, 12))
+    return Outcome(*outcome[:4], ties=tuple(outcome[4:]))
 
 
 def lane(settings, lane, insn, own, head, cells):

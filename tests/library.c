@@ -10,7 +10,8 @@
 
 enum { LAST_OP = REPLAY_OP_STORE };
 
-static uint32_t image[REPLAY_IMAGE], list[REPLAY_LIST], settings[8], outcome[5];
+/* The outcome has room for a run's; reading and writing take the first five words. */
+static uint32_t image[REPLAY_IMAGE], list[REPLAY_LIST], settings[8], outcome[12];
 static uint16_t dst[REPLAY_DST];
 static uint8_t text[REPLAY_TEXT], room[REPLAY_REPORT + 1];
 static int failures;
@@ -29,6 +30,16 @@ static void start(void)
     memset(settings, 0, sizeof settings);
     settings[REPLAY_SETTING_EDITION] = 1;
     settings[REPLAY_SETTING_SRCB] = 2;
+}
+
+/* So that a word of the outcome that a call does not write is seen. */
+static void poison(void) { memset(outcome, 0xA5, sizeof outcome); }
+
+static int untouched(unsigned from)
+{
+    for (unsigned i = from; i < sizeof outcome / sizeof *outcome; i++)
+        if (outcome[i] != 0xA5A5A5A5) return 0;
+    return 1;
 }
 
 static uint32_t run_one(uint32_t op, uint32_t imm, uint32_t vc, uint32_t vd, uint32_t mod)
@@ -92,7 +103,9 @@ static void words(void)
 {
     static const char listing[] = "edition=2\nsrcb=1\noffset=0003\ncursor=0004\nstride0=0005\nstride1=0006\nstride2=0007\nstride3=0008\n"
                                   "count=0002\nop=LOAD imm=00012 vb=01 vc=00 vd=00 mod=02\nop=AND imm=00000 vb=09 vc=10 vd=11 mod=01\n";
+    poison();
     expect(replay_read((const uint8_t *)listing, strlen(listing), list, REPLAY_LIST, settings, outcome) == REPLAY_DONE, "read", 0);
+    expect(untouched(REPLAY_OUTCOME_LENGTH + 1), "five words of reading", 0);
     expect(settings[REPLAY_SETTING_EDITION] == 2 && settings[REPLAY_SETTING_SRCB] == 1 && settings[REPLAY_SETTING_OFFSET] == 3 &&
            settings[REPLAY_SETTING_CURSOR] == 4 && settings[REPLAY_SETTING_STRIDE0] == 5 && settings[REPLAY_SETTING_STRIDE1] == 6 &&
            settings[REPLAY_SETTING_STRIDE2] == 7 && settings[REPLAY_SETTING_STRIDE3] == 8, "settings", 0);
@@ -100,6 +113,10 @@ static void words(void)
     uint32_t *second = list + 6;
     expect(list[REPLAY_INSN_IMM] == 12 && second[REPLAY_INSN_OP] == REPLAY_OP_AND && second[REPLAY_INSN_VB] == 9 && second[REPLAY_INSN_VC] == 10 &&
            second[REPLAY_INSN_VD] == 11 && second[REPLAY_INSN_MOD] == 1, "instructions", 0);
+    poison();
+    expect(replay_write(settings, list, 12, text, REPLAY_TEXT, outcome) == REPLAY_DONE, "written", 0);
+    expect(outcome[REPLAY_OUTCOME_CURSOR] == 4 && outcome[REPLAY_OUTCOME_LENGTH] == strlen(listing), "the outcome of writing", 0);
+    expect(untouched(REPLAY_OUTCOME_LENGTH + 1), "five words of writing", 0);
     expect(replay_run(settings, image, REPLAY_IMAGE, dst, REPLAY_DST, list, 12, outcome) == REPLAY_DONE, "run", 0);
     expect(outcome[REPLAY_OUTCOME_ANSWER] == 0 && outcome[REPLAY_OUTCOME_STEPS] == 2 && outcome[REPLAY_OUTCOME_PLACE] == 0 &&
            outcome[REPLAY_OUTCOME_CURSOR] == 10, "the outcome of a run", 0);
@@ -166,6 +183,61 @@ static void stores(void)
     refused_run(insns, REPLAY_DST, REPLAY_BAD_LOAD_MOD);
     insns[12 + REPLAY_INSN_OP] = LAST_OP + 1;
     refused_run(insns, REPLAY_DST, REPLAY_UNKNOWN_OP);
+}
+
+static void expect_ties(const uint32_t ties[REPLAY_COLUMNS], const char *what)
+{
+    for (unsigned column = 0; column < REPLAY_COLUMNS; column++)
+        expect(outcome[REPLAY_OUTCOME_TIES + column] == ties[column], what, column);
+}
+
+static void refused_ties(const uint32_t *words, size_t image_len, size_t dst_len, size_t list_len, uint32_t answer)
+{
+    static const uint32_t none[REPLAY_COLUMNS] = {0};
+    poison();
+    expect(replay_run(settings, image, image_len, dst, dst_len, words, list_len, outcome) == answer, "refused", answer);
+    expect_ties(none, "no ties of a refused run");
+}
+
+/* The ties of a run stand by column, over whatever was in the outcome; a refused run has none. */
+static void ties(void)
+{
+    /* Register 0 is 26, twice lane 13; register 1 too, but in lanes 0 to 2 and 8; lane 31 is not enabled; bit 4 is set in lanes 5, 6 and 14. */
+    uint32_t swaps[24] = {REPLAY_OP_SWAP, 0, 0, 0, 1, 1, REPLAY_OP_SWAP, 0, 0, 1, 0, 0, REPLAY_OP_SWAP, 0, 0, 0, 15, 9, REPLAY_OP_SWAP, 0, 0, 12, 12, 2};
+    static const uint32_t first[REPLAY_COLUMNS] = {2, 3, 3, 4, 4, 4, 4, 3}, none[REPLAY_COLUMNS] = {0};
+    static const uint32_t all[REPLAY_COLUMNS] = {2, 3, 3, 4, 4, 5, 6, 3};   /* 12 with itself, in lanes 5, 6 and 14; 15 with 0 in none, since lane 13 doesn't act */
+    start();
+    for (unsigned at = 0; at < REPLAY_LANES; at++) {
+        image[REPLAY_AT_REGISTER_0 + at] = 26;
+        image[REPLAY_AT_REGISTER_1 + at] = at < 3 || at == 8 ? 25 : 26;
+    }
+    image[REPLAY_AT_USE_FLAGS + 31] = 1;
+    image[REPLAY_AT_LANE_CONFIG + 5] = image[REPLAY_AT_LANE_CONFIG + 6] = image[REPLAY_AT_LANE_CONFIG + 14] = 1u << 4;
+    refused_ties(swaps, REPLAY_IMAGE - 1, REPLAY_DST, 24, REPLAY_BAD_IMAGE_LENGTH);
+    refused_ties(swaps, REPLAY_IMAGE, REPLAY_DST - 1, 24, REPLAY_BAD_DST_LENGTH);
+    refused_ties(swaps, REPLAY_IMAGE, REPLAY_DST, 23, REPLAY_BAD_LIST_LENGTH);
+    settings[REPLAY_SETTING_CURSOR] = 1024;
+    refused_ties(swaps, REPLAY_IMAGE, REPLAY_DST, 24, REPLAY_BAD_SETTING);
+    settings[REPLAY_SETTING_CURSOR] = 0;
+    image[REPLAY_AT_MISC] = 1u << 12;
+    refused_ties(swaps, REPLAY_IMAGE, REPLAY_DST, 24, REPLAY_BAD_IMAGE);
+    image[REPLAY_AT_MISC] = 0;
+    swaps[18 + REPLAY_INSN_VD] = 16;
+    refused_ties(swaps, REPLAY_IMAGE, REPLAY_DST, 24, REPLAY_BAD_FIELD);
+    swaps[18 + REPLAY_INSN_OP] = LAST_OP + 1;
+    refused_ties(swaps, REPLAY_IMAGE, REPLAY_DST, 24, REPLAY_UNKNOWN_OP);
+    swaps[18 + REPLAY_INSN_OP] = REPLAY_OP_SWAP;
+    swaps[18 + REPLAY_INSN_VD] = 12;
+
+    poison();
+    expect(replay_run(settings, image, REPLAY_IMAGE, dst, REPLAY_DST, swaps, 6, outcome) == REPLAY_DONE, "one SWAP", 0);
+    expect_ties(first, "the ties of one");
+    poison();
+    expect(replay_run(settings, image, REPLAY_IMAGE, dst, REPLAY_DST, swaps, 24, outcome) == REPLAY_DONE, "four SWAPs", 0);
+    expect_ties(all, "the ties of four");
+    poison();
+    expect(replay_run(settings, image, REPLAY_IMAGE, dst, REPLAY_DST, swaps, 0, outcome) == REPLAY_DONE, "no list", 0);
+    expect_ties(none, "no ties without a list");
 }
 
 /* A lane's words are in the image's order, its cells even and odd; both are lent both ways. */
@@ -299,7 +371,7 @@ int main(int argc, char **argv)
 {
     static const struct { const char *name; void (*topic)(void); } topics[] = {
         {"version", version}, {"ops", ops}, {"answers", answers}, {"words", words}, {"sizes", sizes},
-        {"stores", stores}, {"lane", lane}, {"parts", parts}, {"nulls", nulls}, {"names", names},
+        {"stores", stores}, {"ties", ties}, {"lane", lane}, {"parts", parts}, {"nulls", nulls}, {"names", names},
     };
     if (argc == 4 && strcmp(argv[1], "report") == 0) {
         report(argv[2], argv[3]);

@@ -50,11 +50,19 @@ for listing in glob.glob(os.path.join(root, "examples/*.lst")):
 
 # Dst is written where STORE says, and by nothing where the list is refused.
 state, cells, store = replay.image(), replay.dst(), [replay.OPS.index("STORE"), 4, 0, 0, 10, 2]
-assert replay.run(replay.Settings(), state, cells, store + [len(replay.OPS), 0, 0, 0, 0, 0]) == replay.Outcome(7, 0, 1, 0)
+assert replay.run(replay.Settings(), state, cells, store + [len(replay.OPS), 0, 0, 0, 0, 0]) == replay.Outcome(7, 0, 1, 0, ties=(0,) * 8)
 assert not any(cells)
 assert replay.run(replay.Settings(), state, cells, store).done and not any(state)
 assert [at for at, cell in enumerate(cells) if cell] == [16 * row + column for row in range(4, 8) for column in range(0, 16, 2)]
 assert set(cells) == {0, 0x007F}
+
+# Ties are a run's, by column: register 0 with itself in all lanes, and with 15 in lane 0 alone; none where the list is refused, or in reading and writing.
+swap = replay.OPS.index("SWAP")
+swaps = [swap, 0, 0, 0, 0, 1] + [swap, 0, 0, 15, 0, 9] + [swap, 0, 0, 0, 0, 0]
+assert replay.run(replay.Settings(), replay.image(), replay.dst(), swaps) == replay.Outcome(0, 3, 0, 0, ties=(5,) + (4,) * 7)
+assert replay.run(replay.Settings(), replay.image(), replay.dst(), swaps + [swap, 1, 0, 0, 0, 0]) == replay.Outcome(8, 0, 3, 0, ties=(0,) * 8)
+assert replay.run(replay.Settings(), replay.image(), replay.dst(), []).ties == (0,) * 8
+assert replay.write(replay.Settings(), swaps)[1].ties == replay.read(b"")[2].ties == ()
 
 # A lane and its cells, nothing lent, and what would not fit.
 own, cells = array("I", [0]) * 24, array("H", [0x1111, 0x2222])

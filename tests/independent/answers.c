@@ -36,9 +36,9 @@ static void print(FILE *out, uint32_t kind, const uint32_t *numbers, int count, 
 
 static void answer_run(struct run_case *r, FILE *out)
 {
-    uint32_t o[4];
+    uint32_t o[12];
     ind_run(r->settings, r->image, r->image_len, r->dst, r->dst_len, r->list, r->list_len, o);
-    print(out, RUN_CASE, o, 4, cell_checksum(checksum(NOTHING, r->image, r->image_len), r->dst, r->dst_len));
+    print(out, RUN_CASE, o, 12, cell_checksum(checksum(NOTHING, r->image, r->image_len), r->dst, r->dst_len));
 }
 
 static void answer_lane(struct lane_case *l, FILE *out)
@@ -98,7 +98,7 @@ static void show_cells(const char *what, const uint16_t *cells, FILE *out)
 static void show_dst(const struct run_case *c, FILE *out)
 {
     static struct run_case r;
-    uint32_t o[4];
+    uint32_t o[12];
     r = *c;
     if (ind_run(r.settings, r.image, r.image_len, r.dst, r.dst_len, r.list, r.list_len, o) != 0) return;
     for (size_t at = 0; at < DST_CELLS; at += 16) {

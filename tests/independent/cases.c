@@ -108,6 +108,16 @@ static void make_pair(const uint32_t settings[8], uint32_t *store)
     load[F_MOD] = mods[STORE][below(16)];
 }
 
+/* Any mod, 0 too, and any two registers; more often the same one twice, those for which a lane acts only by its bit 4, and those that share words. */
+static void make_swap(uint32_t insn[6])
+{
+    make_op(insn, SWAP);
+    uint32_t t = below(8);
+    if (t == 0) insn[F_VD] = insn[F_VC];
+    else if (t < 3) insn[F_VD] = 12 + below(4);
+    else if (t < 6) insn[F_VC] %= 8, insn[F_VD] %= 8;
+}
+
 /* A list: the instructions that are given, which repeat up to its length. */
 struct list {
     uint32_t word[ROOM_LIST];
@@ -119,6 +129,14 @@ static void make_list(struct list *l, uint32_t count, uint32_t most)
     l->given = count < most ? count : most;
     l->len = 6 * (size_t)count;
     for (size_t i = 0; i < l->given; i++) make_insn(l->word + 6 * i);
+}
+
+/* Mostly SWAPs; the others make words, flags and LaneConfig change under them. */
+static void make_tie_list(struct list *l, uint32_t count, uint32_t most)
+{
+    make_list(l, count, most);
+    for (size_t i = 0; i < l->given; i++)
+        if (i == 0 || below(4) > 0) make_swap(l->word + 6 * i);
 }
 
 static void put_list(const struct list *l)
@@ -194,7 +212,7 @@ static int damages(void)
 /* Images: a seed, and words that stand in a row of lanes. */
 
 struct image {
-    uint32_t seed, changes, change[8][3];
+    uint32_t seed, changes, change[12][3];
 };
 
 struct lanes {
@@ -226,7 +244,10 @@ static void make_image(struct image *i)
     if (configs < 3) change(i, SLOT_CONFIG, all_lanes, 0);
     else if (configs < 6) change(i, SLOT_CONFIG, all_lanes, 1u << below(18));
     if (uses == 0) change(i, SLOT_USE, all_lanes, 0);
-    else if (uses == 1) change(i, SLOT_USE, some_lanes(), below(2));
+    else if (uses == 1) {
+        uint32_t use = below(2);
+        change(i, SLOT_USE, some_lanes(), use);
+    }
     if (same == 0) {
         /* Two registers alike, for the ties of SWAP. */
         struct lanes lanes = some_lanes();
@@ -234,7 +255,46 @@ static void make_image(struct image *i)
         change(i, first, lanes, w);
         change(i, (first + 1 + below(7)) % 8, lanes, w);
     } else if (same == 1) {
-        change(i, below(8), some_lanes(), special[below(32)]);
+        uint32_t w = special[below(32)];
+        struct lanes lanes = some_lanes();
+        change(i, below(8), lanes, w);
+    }
+}
+
+/* A word that another register may hold too: one of those that are never stored, a likely one, or any. */
+static uint32_t tie_word(void)
+{
+    static const uint32_t fixed[4] = { 0x3F56594B, 0, 0x3F800000, 2 };
+    switch (below(4)) {
+    case 0:  return fixed[below(4)];
+    case 1:  return 2 * below(LANES);       /* register 15's, in one lane */
+    case 2:  return special[below(32)];
+    default: return word();
+    }
+}
+
+/* Registers share words: a word stands in several registers in a row, from some lane of the first to some lane of the last. */
+static void make_tie_image(struct image *i)
+{
+    i->seed = 1 + below(16383);
+    i->changes = 0;
+    uint32_t configs = below(8), bits = below(8), uses = below(4), more = 1 + below(3);
+    struct lanes lanes = some_lanes();
+    if (configs < 5) change(i, SLOT_CONFIG, all_lanes, 0);
+    if (configs > 0 && configs < 7) change(i, SLOT_CONFIG, lanes, (bits & 1) << 2 | (bits & 2) << 3 | (bits & 4) << 6);
+    if (uses < 2) change(i, SLOT_USE, all_lanes, 0);
+    if (uses == 1) {
+        lanes = some_lanes();
+        change(i, SLOT_FLAG, lanes, 0);
+        change(i, SLOT_USE, lanes, 1);
+    }
+    lanes.first = below(LANES);
+    lanes.count = LANES * 6 + below(LANES * 5);
+    change(i, 0, lanes, tie_word());
+    for (; more > 0; more--) {
+        lanes.first = below(LANES * 8);
+        lanes.count = 1 + below(LANES * 4);
+        change(i, 0, lanes, tie_word());
     }
 }
 
@@ -264,40 +324,80 @@ static uint32_t run_count(void)
     return 1 + below(t < 24 ? 8 : 40);
 }
 
+struct run {
+    uint32_t settings[8], image_len, dst_len;
+    struct list list;
+    struct image image;
+};
+
+static void damage_run(struct run *r)
+{
+    uint32_t t, v;
+    switch (below(10)) {
+    case 0:
+        t = below(4), v = below(1025);
+        r->image_len = t == 0 ? 767 : t == 1 ? 769 : t == 2 ? 0 : v;
+        break;
+    case 1:
+        t = below(4), v = below(16401);
+        r->dst_len = t == 0 ? 16383 : t == 1 ? 16385 : t == 2 ? 0 : v;
+        break;
+    case 2: damage_setting(r->settings); break;
+    case 3: damage_length(&r->list); break;
+    case 4: damage_too_many(&r->list); break;
+    case 5: damage_image(&r->image); break;
+    default: damage_insn(r->list.word, r->list.given);
+    }
+}
+
+static void put_run(const struct run *r)
+{
+    put(RUN_CASE);
+    put_all(r->settings, 8);
+    put_list(&r->list);
+    put_image(&r->image);
+    put(r->image_len);
+    put(r->dst_len);
+    put((uint32_t)r->list.len);
+}
+
 static void make_run(void)
 {
-    uint32_t settings[8], image_len = IMAGE_WORDS, dst_len = DST_CELLS, t, v;
-    static struct list list;
-    struct image image;
+    static struct run r;
     uint32_t count = run_count();
-    make_settings(settings);
-    make_list(&list, count, 1 + below(6));
-    if (list.given >= 2 && below(4) == 0) make_pair(settings, list.word + 6 * below((uint32_t)list.given - 1));
-    make_image(&image);
-    for (int n = damages(); n > 0; n--) {
-        switch (below(10)) {
-        case 0:
-            t = below(4), v = below(1025);
-            image_len = t == 0 ? 767 : t == 1 ? 769 : t == 2 ? 0 : v;
-            break;
-        case 1:
-            t = below(4), v = below(16401);
-            dst_len = t == 0 ? 16383 : t == 1 ? 16385 : t == 2 ? 0 : v;
-            break;
-        case 2: damage_setting(settings); break;
-        case 3: damage_length(&list); break;
-        case 4: damage_too_many(&list); break;
-        case 5: damage_image(&image); break;
-        default: damage_insn(list.word, list.given);
-        }
-    }
-    put(RUN_CASE);
-    put_all(settings, 8);
-    put_list(&list);
-    put_image(&image);
-    put(image_len);
-    put(dst_len);
-    put((uint32_t)list.len);
+    r.image_len = IMAGE_WORDS, r.dst_len = DST_CELLS;
+    make_settings(r.settings);
+    make_list(&r.list, count, 1 + below(6));
+    if (r.list.given >= 2 && below(4) == 0) make_pair(r.settings, r.list.word + 6 * below((uint32_t)r.list.given - 1));
+    make_image(&r.image);
+    for (int n = damages(); n > 0; n--) damage_run(&r);
+    put_run(&r);
+}
+
+/* As many ties as there can be: a register with itself, in every lane and instruction. */
+static void make_all_tied(struct run *r)
+{
+    r->list.given = 1, r->list.len = 6 * MAX_INSNS;
+    make_op(r->list.word, SWAP);
+    r->list.word[F_VC] = r->list.word[F_VD] = below(12);
+    r->list.word[F_MOD] = 1 + below(15);
+    change(&r->image, SLOT_USE, all_lanes, 0);
+}
+
+/* Runs that meet ties. Some are refused for their last instruction, so that there is something to count before it. */
+static void make_tie_run(uint32_t k)
+{
+    static struct run r;
+    uint32_t count = run_count(), t;
+    r.image_len = IMAGE_WORDS, r.dst_len = DST_CELLS;
+    make_settings(r.settings);
+    make_tie_list(&r.list, count, 1 + below(6));
+    make_tie_image(&r.image);
+    t = below(16);
+    if (k % 512 == 511) make_all_tied(&r);
+    else if (t < 3) damage_run(&r);
+    else if (t < 5 && r.list.given > 0) damage_insn(r.list.word + 6 * (r.list.given - 1), 1);
+    put_run(&r);
 }
 
 /* Lanes */
@@ -313,7 +413,10 @@ static void make_lane_settings(uint32_t settings[8])
 {
     memset(settings, 0, 8 * sizeof *settings);
     for (int i = 0; i < 2; i++) settings[i] = 1 + below(2);
-    if (below(8) == 0) settings[2 + below(6)] = below(1024);
+    if (below(8) == 0) {
+        uint32_t i = 2 + below(6);
+        settings[i] = below(1024);
+    }
 }
 
 /* Every op, and an unknown one, with every mod up to 16, refused in turn: by its mod or, where that is allowed, by a field. */
@@ -393,7 +496,8 @@ static void make_writing(void)
     uint32_t settings[8], t = below(32), r, v;
     static struct list list;
     make_settings(settings);
-    make_list(&list, t == 0 ? 1024 : t == 1 ? 0 : 1 + below(20), 1 + below(6));
+    uint32_t most = 1 + below(6);
+    make_list(&list, t == 0 ? 1024 : t == 1 ? 0 : 1 + below(20), most);
     if (below(2) == 0) {
         uint32_t kind = below(8);
         if (kind < 2) damage_setting(settings);
@@ -625,7 +729,9 @@ void ind_cases(uint32_t seed, uint32_t runs, uint32_t lanes, uint32_t listings, 
     out = to;
     for (uint32_t k = 0; k < runs; k++) {
         start(seed, k, 4);
-        make_run();
+        /* of 4 runs one is for ties */
+        if (k % 4 == 3) make_tie_run(k);
+        else make_run();
     }
     for (uint32_t k = 0; k < lanes; k++) {
         start(seed, k, 8);

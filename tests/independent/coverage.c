@@ -17,6 +17,9 @@ struct tally {
     unsigned long refused[OPS + 1][WORDS];  /* by 7, 8 or 9, by op (OPS for an unknown one) and mod */
     unsigned long field[OPS][WORDS];        /* by 8, by op and field */
     unsigned long pair[10][WORDS];          /* lanes filled from the cell that was stored just before, by STORE's mod and LOAD's */
+    unsigned long equal[3][WORDS];          /* lanes of a run with two equal words under SWAP, by what the lane does and mod */
+    unsigned long ties[2][COLUMNS];         /* what runs count, by column: together, and the most that one counts */
+    unsigned long untold[12];               /* refused runs that count none and else would, by answer */
 };
 
 static struct tally t;
@@ -36,6 +39,15 @@ static const char *const store_names[STORES] = {
     "lanes, to the even column", "lanes, to the odd column by the address", "lanes, to the odd column by bit 5 of row 0's lane", "lanes, to the odd column by both",
     "lanes whose own bit 5 would choose the other column", "lanes with bit 1 set", "lanes not enabled", "instructions at an address past 1,020",
     "instructions that take the cursor past 1,023", "instructions of a run, before the one that it is refused for",
+};
+
+/* What SWAP's ties meet, in lanes and then as a run. */
+enum { SAME_REGISTER, NEVER_STORED, LAST_REGISTERS, BIT2, BIT8, EQUAL_AFTER, UNEQUAL_AFTER, RUNS_WITH, RUNS_UNEVEN, RUNS_ONE, TIES };
+static unsigned long ties[TIES];
+static const char *const tie_names[TIES] = {
+    "lanes, vc and vd the same register", "lanes, one of the two a register that is never stored", "lanes, vd 12 to 15 and bit 4 set", "lanes with bit 2 set",
+    "lanes with bit 8 set", "lanes with two words that are equal after SWAP and not before, no ties", "lanes with two words that are equal before SWAP and not after",
+    "runs with a tie", "runs with other ties in one column than in another", "runs with ties in one column alone",
 };
 
 /* A lane's words, out of those of so many lanes, which stand slot by slot. */
@@ -70,15 +82,16 @@ static void count_lut(const uint32_t *w)
     rare[LUT_NO_NUMBER] += isnan(product + c) != 0;
 }
 
-/* A register's word in a lane's 24 words, of those that are stored; any other counts as 1.0, so that no tie with one is counted as a NaN or a zero. */
-static uint32_t stored(const uint32_t *w, uint32_t reg)
+/* A register's word in a lane's 24 words. */
+static uint32_t held(const uint32_t *w, uint32_t reg, uint32_t lane)
 {
-    return reg < 8 ? w[reg] : reg >= 11 && reg < 15 ? w[SLOT_R11 + reg - 11] : 0x3F800000;
+    static const uint32_t constants[3] = { 0x3F56594B, 0, 0x3F800000 };
+    return reg < 8 ? w[reg] : reg < 11 ? constants[reg - 8] : reg < 15 ? w[SLOT_R11 + reg - 11] : 2 * lane;
 }
 
-static void count_rare(const uint32_t *insn, const uint32_t *w)
+static void count_rare(const uint32_t *insn, const uint32_t *w, uint32_t lane)
 {
-    uint32_t c = stored(w, insn[F_VC]), d = stored(w, insn[F_VD]);
+    uint32_t c = held(w, insn[F_VC], lane), d = held(w, insn[F_VD], lane);
     if (!enabled(w)) return;
     if (insn[F_OP] == LUT) count_lut(w);
     if (insn[F_OP] == SWAP && insn[F_MOD] != 0) {
@@ -109,8 +122,8 @@ static void count_store(uint32_t addr, const uint32_t *w, uint32_t row0_config)
     stores[BIT1] += w[SLOT_CONFIG] >> 1 & 1;
 }
 
-/* An instruction about to be done in so many lanes; and LaneConfig of row 0's. */
-static void count_done(const uint32_t settings[8], const uint32_t *insn, const uint32_t *words, unsigned lanes, const uint32_t *row0_configs)
+/* An instruction about to be done in so many lanes from one on; and LaneConfig of row 0's. */
+static void count_done(const uint32_t settings[8], const uint32_t *insn, const uint32_t *words, uint32_t first, unsigned lanes, const uint32_t *row0_configs)
 {
     uint32_t op = insn[F_OP], bits = 0;
     t.mod[op][insn[F_MOD]]++;
@@ -120,7 +133,7 @@ static void count_done(const uint32_t settings[8], const uint32_t *insn, const u
         uint32_t w[SLOTS];
         take_lane(w, words, lanes, lane);
         if (enabled(w)) bits |= w[SLOT_CONFIG];
-        count_rare(insn, w);
+        count_rare(insn, w, first + lane);
         if (op == STORE) count_store(address(settings, insn), w, row0_configs[lane % 8]);
     }
     if (op == STORE) {
@@ -139,6 +152,66 @@ static void count_pair(const uint32_t *store, const uint32_t *load, const uint32
         take_lane(w, image, LANES, lane);
         t.pair[store[F_MOD]][load[F_MOD]] += enabled(w) && (w[SLOT_CONFIG] >> 1 & 1) == 0;
     }
+}
+
+/* An instruction of a run, by the images before it and after it. */
+static void count_equal(const uint32_t *insn, const uint32_t *before, const uint32_t *after)
+{
+    const uint32_t vc = insn[F_VC], vd = insn[F_VD], mod = insn[F_MOD];
+    if (insn[F_OP] != SWAP) return;
+    for (unsigned lane = 0; lane < LANES; lane++) {
+        uint32_t w[SLOTS], later[SLOTS], config;
+        take_lane(w, before, LANES, lane);
+        take_lane(later, after, LANES, lane);
+        config = w[SLOT_CONFIG];
+        bool acts = vd < 12 || (config >> 4 & 1) == 1;
+        bool equal = held(w, vc, lane) == held(w, vd, lane), equal_after = held(later, vc, lane) == held(later, vd, lane);
+        if (equal) t.equal[!enabled(w) ? 2 : acts ? 0 : 1][mod]++;
+        if (!enabled(w) || !acts || mod == 0) continue;
+        ties[EQUAL_AFTER] += !equal && equal_after;
+        if (!equal) continue;
+        ties[SAME_REGISTER] += vc == vd;
+        ties[NEVER_STORED] += vc != vd && (vc == 15 || vd == 15 || (vc >= 8 && vc < 11) || (vd >= 8 && vd < 11));
+        ties[LAST_REGISTERS] += vd >= 12;
+        ties[BIT2] += config >> 2 & 1;
+        ties[BIT8] += config >> 8 & 1;
+        ties[UNEQUAL_AFTER] += !equal_after;
+    }
+}
+
+static int columns_with(const uint32_t *counts)
+{
+    int n = 0;
+    for (int c = 0; c < COLUMNS; c++) n += counts[c] != 0;
+    return n;
+}
+
+static void count_counts(const uint32_t *counts)
+{
+    bool uneven = false;
+    for (int c = 0; c < COLUMNS; c++) {
+        t.ties[0][c] += counts[c];
+        if (counts[c] > t.ties[1][c]) t.ties[1][c] = counts[c];
+        uneven = uneven || counts[c] != counts[0];
+    }
+    ties[RUNS_WITH] += columns_with(counts) > 0;
+    ties[RUNS_UNEVEN] += uneven;
+    ties[RUNS_ONE] += columns_with(counts) == 1;
+}
+
+/* Whether a refused run would count any, if what it is refused for were put right, or left off with all that comes after it. */
+static bool would_count(const struct run_case *c)
+{
+    static const uint32_t plain[8] = { 1, 1, 0, 0, 0, 0, 0, 0 };
+    static struct run_case r;
+    uint32_t o[12], place;
+    r = *c;
+    for (unsigned i = 0; i < IMAGE_WORDS; i++)
+        if (!ind_slot_good(i / LANES, r.image[i])) r.image[i] = 0;
+    size_t count = r.list_len / 6 < MAX_INSNS ? r.list_len / 6 : MAX_INSNS;
+    if (ind_list_fault(r.list, count, &place) != 0) count = place;
+    ind_run(plain, r.image, IMAGE_WORDS, r.dst, DST_CELLS, r.list, 6 * count, o);
+    return columns_with(o + O_TIES) > 0;
 }
 
 /* The field without which an instruction would not be refused by 8. */
@@ -171,18 +244,25 @@ static void count_answer(int where, uint32_t answer, const uint32_t *insn)
 static void count_run(const struct run_case *c)
 {
     static struct run_case r;
-    uint32_t o[4], last = 0;
+    static uint32_t before[IMAGE_WORDS];
+    uint32_t o[12], last = 0;
     r = *c;
     ind_run(r.settings, r.image, r.image_len, r.dst, r.dst_len, r.list, r.list_len, o);
     count_answer(0, o[O_ANSWER], r.list + 6 * o[O_PLACE]);
     for (size_t i = 0; i < o[O_PLACE]; i++) stores[REFUSED_LATER] += r.list[6 * i] == STORE;
-    if (o[O_ANSWER] != 0) return;
+    if (o[O_ANSWER] != 0) {
+        t.untold[o[O_ANSWER]] += would_count(c);
+        return;
+    }
+    count_counts(o + O_TIES);
     r = *c;
     for (size_t i = 0; i < r.list_len; i += 6) {
         const uint32_t *insn = r.list + i, addr = address(r.settings, insn);
         if (i > 0 && addr == last) count_pair(insn - 6, insn, r.image);
-        count_done(r.settings, insn, r.image, LANES, r.image + LANES * SLOT_CONFIG);
+        count_done(r.settings, insn, r.image, 0, LANES, r.image + LANES * SLOT_CONFIG);
+        memcpy(before, r.image, sizeof before);
         ind_run(r.settings, r.image, r.image_len, r.dst, r.dst_len, insn, 6, o);
+        count_equal(insn, before, r.image);
         r.settings[S_CURSOR] = o[O_CURSOR];
         last = addr;
     }
@@ -193,7 +273,7 @@ static void count_lane(const struct lane_case *l)
     struct lane_case a = *l;
     uint32_t answer = ind_lane(a.settings, a.lane, a.insn, a.own, a.head, a.cells);
     count_answer(1, answer, l->insn);
-    if (answer == 0) count_done(l->settings, l->insn, l->own, 1, l->head + SLOT_CONFIG);
+    if (answer == 0) count_done(l->settings, l->insn, l->own, l->lane, 1, l->head + SLOT_CONFIG);
 }
 
 static void count_writing(const struct writing_case *w)
@@ -245,6 +325,7 @@ void ind_coverage(FILE *in, FILE *out)
 {
     static struct any_case c;
     static const char *const mods[10] = { [2] = "STORE 2", [6] = "STORE 6", [7] = "STORE 7", [9] = "STORE 9" };
+    static const char *const lanes[3] = { "acting", "idle", "off" }, *const counts[2] = { "all runs", "most" }, *const untold[1] = { "runs" };
     const char *ops[OPS + 1];
     memcpy(ops, ind_names, sizeof ind_names);
     ops[OPS] = "unknown";
@@ -263,4 +344,9 @@ void ind_coverage(FILE *in, FILE *out)
     print_lines(out, "ties and NaN, in enabled lanes", rare_names, rare, RARE);
     print_lines(out, "STORE, by lanes and by instructions", store_names, stores, STORES);
     print_by(out, "STORE, and right after it LOAD of the same address: lanes that it fills, by LOAD's mod", mods, 10, t.pair[0], WORDS, 0, 16);
+    print_by(out, "SWAP of two equal words in a run: lanes, by mod (a tie if acting, but for mod 0; idle: vd 12 to 15, bit 4 clear; off: not enabled)",
+             lanes, 3, t.equal[0], WORDS, 0, 16);
+    print_by(out, "ties that runs count, by column: of all runs, and the most of one", counts, 2, t.ties[0], COLUMNS, 0, COLUMNS);
+    print_lines(out, "ties, by lanes and by runs", tie_names, ties, TIES);
+    print_by(out, "refused runs that count none, and would without what they are refused for, by answer", untold, 1, t.untold, 12, 1, 10);
 }

@@ -18,7 +18,7 @@
 #include <stdint.h>
 #include <stdio.h>
 
-enum { LANES = 32, SLOTS = 24, IMAGE_WORDS = 768, DST_CELLS = 16384, MAX_INSNS = 1024, TEXT_LIMIT = 65536 };
+enum { LANES = 32, COLUMNS = 8, SLOTS = 24, IMAGE_WORDS = 768, DST_CELLS = 16384, MAX_INSNS = 1024, TEXT_LIMIT = 65536 };
 
 /* OPS is the first number past them that is no op. */
 enum { LOAD = 1, LOADI, LUT, SWAP, CONFIG, IADD, ABS, AND, OR, XOR, NOT, LZ, EXEXP, EXMAN, NOP, STORE, OPS };
@@ -30,8 +30,8 @@ enum { S_EDITION, S_SRCB, S_OFFSET, S_CURSOR, S_STRIDE0 };
 /* A lane's 24 words; in the image, slot s of lane l is word 32 s + l. Registers 11 to 14 are slots 8 to 11. */
 enum { SLOT_R11 = 8, SLOT_CONFIG = 12, SLOT_FLAG, SLOT_USE, SLOT_TEMPLATE, SLOT_SEQUENCE = 19, SLOT_MISC = 23 };
 
-/* An outcome: the first four of a run, all five of reading and writing. */
-enum { O_ANSWER, O_STEPS, O_PLACE, O_CURSOR, O_LENGTH };
+/* An outcome: four words, and then the ties of a run, column by column, or the length of reading and writing. */
+enum { O_ANSWER, O_STEPS, O_PLACE, O_CURSOR, O_TIES, O_LENGTH = O_TIES };
 
 /* checks.c */
 bool ind_settings_good(const uint32_t settings[8]);
@@ -44,7 +44,7 @@ uint32_t ind_list_fault(const uint32_t *list, size_t count, uint32_t *place);   
 float ind_float_of(uint32_t bits);
 bool ind_is_nan(uint32_t bits);
 uint32_t ind_run(const uint32_t settings[8], uint32_t *image, size_t image_len, uint16_t *dst, size_t dst_len,
-                 const uint32_t *list, size_t list_len, uint32_t outcome[4]);
+                 const uint32_t *list, size_t list_len, uint32_t outcome[12]);
 uint32_t ind_lane(const uint32_t settings[8], uint32_t lane, const uint32_t insn[6], uint32_t own[24], const uint32_t head[24],
                   uint16_t cells[2]);                               /* the even one and the odd one */
 

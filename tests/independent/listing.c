@@ -167,7 +167,7 @@ void ind_replay(FILE *in, FILE *out)
     static uint8_t text[TEXT_LIMIT + 1];            /* one more than allowed, to see that there was more */
     static uint32_t list[6 * MAX_INSNS], image[IMAGE_WORDS];
     static uint16_t dst[DST_CELLS];
-    uint32_t settings[8], outcome[5];
+    uint32_t settings[8], outcome[12];
 
     memset(image, 0, sizeof image);
     memset(dst, 0, sizeof dst);

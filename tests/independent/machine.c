@@ -12,11 +12,12 @@ _Static_assert(sizeof(float) == 4 && FLT_MANT_DIG == 24, "float must be IEEE sin
 
 struct machine {
     uint32_t word[LANES][SLOTS];
-    const uint32_t *head[8];        /* row 0's lane of each column: the machine's own lane in a run, what was lent in a lane call */
+    const uint32_t *head[COLUMNS];  /* row 0's lane of each column: the machine's own lane in a run, what was lent in a lane call */
     unsigned first, end;            /* the lanes an instruction goes over: all of them in a run, one in a lane call */
     uint16_t *dst;                  /* all of Dst in a run, an even and an odd cell in a lane call */
     uint32_t dst_mask;              /* the bits of a place that tell these cells apart */
     uint32_t edition, srcb, offset, cursor, stride[4];
+    uint32_t ties[COLUMNS];         /* equal pairs that SWAP has compared so far */
 };
 
 enum { ENABLE_FP16A_INF = 1 << 0, BLOCK_SFPU_RD_FROM_DEST = 1 << 1, ENABLE_DEST_INDEX = 1 << 2, CAPTURE_DEFAULT_DEST_INDEX = 1 << 3,
@@ -190,11 +191,19 @@ static void sfplut(struct machine *m, const uint32_t *insn)
     }
 }
 
-/* SWAP: document 002 */
+/* SWAP: document 002, with M-102's comparison and its ties */
 
 static int64_t rank(uint32_t x)
 {
     return x >> 31 ? -1 - (int64_t)(x & 0x7FFFFFFF) : (int64_t)x;
+}
+
+enum order { BELOW, EQUAL, ABOVE };
+
+static enum order compare(uint32_t x, uint32_t y)
+{
+    int64_t rank_x = rank(x), rank_y = rank(y);
+    return rank_x < rank_y ? BELOW : rank_x > rank_y ? ABOVE : EQUAL;
 }
 
 static void sfpswap(struct machine *m, const uint32_t *insn)
@@ -209,8 +218,9 @@ static void sfpswap(struct machine *m, const uint32_t *insn)
         uint32_t vc_val = lreg(m, vc, lane), vd_val = lreg(m, vd, lane);
         bool should_swap = true;
         if (mod != 0) {
-            bool smaller = rank(vc_val) < rank(vd_val);
-            should_swap = vd_gets_min[mod] >> lane & 1 ? smaller : !smaller;
+            enum order order = compare(vc_val, vd_val);
+            if (order == EQUAL) m->ties[lane & 7]++;
+            should_swap = vd_gets_min[mod] >> lane & 1 ? order == BELOW : order != BELOW;
             if (config_bit(m, lane, EXCHANGE_SRCB_SRCC)) should_swap = !should_swap;
         }
         if (!should_swap) continue;
@@ -402,13 +412,14 @@ static uint32_t refuse_run(const uint32_t settings[8], const uint32_t *image, si
 }
 
 uint32_t ind_run(const uint32_t settings[8], uint32_t *image, size_t image_len, uint16_t *dst, size_t dst_len,
-                 const uint32_t *list, size_t list_len, uint32_t outcome[4])
+                 const uint32_t *list, size_t list_len, uint32_t outcome[12])
 {
     uint32_t place, answer = refuse_run(settings, image, image_len, dst_len, list, list_len, &place);
     outcome[O_ANSWER] = answer;
     outcome[O_STEPS] = 0;
     outcome[O_PLACE] = place;
     outcome[O_CURSOR] = settings[S_CURSOR];
+    for (unsigned c = 0; c < COLUMNS; c++) outcome[O_TIES + c] = 0;
     if (answer != 0) return answer;
 
     struct machine m;
@@ -417,13 +428,14 @@ uint32_t ind_run(const uint32_t settings[8], uint32_t *image, size_t image_len, 
     m.dst_mask = DST_CELLS - 1;
     m.first = 0;
     m.end = LANES;
-    for (unsigned c = 0; c < 8; c++) m.head[c] = m.word[c];
+    for (unsigned c = 0; c < COLUMNS; c++) m.head[c] = m.word[c];
     for (unsigned i = 0; i < IMAGE_WORDS; i++) m.word[i % LANES][i / LANES] = image[i];
     for (size_t i = 0; i < list_len; i += 6) step(&m, list + i);
     for (unsigned i = 0; i < IMAGE_WORDS; i++) image[i] = m.word[i % LANES][i / LANES];
 
     outcome[O_STEPS] = (uint32_t)(list_len / 6);
     outcome[O_CURSOR] = m.cursor;
+    for (unsigned c = 0; c < COLUMNS; c++) outcome[O_TIES + c] = m.ties[c];
     return 0;
 }
 

@@ -342,7 +342,7 @@ static void stores(void)
 
 /* Runs */
 
-static uint32_t image[ROOM_IMAGE], list[ROOM_LIST], outcome[5];
+static uint32_t image[ROOM_IMAGE], list[ROOM_LIST], outcome[12];
 static uint16_t dst[ROOM_DST];
 
 static bool is(uint32_t answer, uint32_t steps, uint32_t place, uint32_t cursor)
@@ -448,6 +448,229 @@ static void runs_that_store(void)
     CHECK(memcmp(image, image_before, sizeof image) == 0);
 }
 
+/* Ties (M-102) */
+
+/* Every lane alike: a word in registers 0 and 1, all lanes enabled, LaneConfig as given. Other words are 0. */
+static void alike(uint32_t word, uint32_t config)
+{
+    fresh();
+    memset(image, 0, sizeof image);
+    for (unsigned l = 0; l < LANES; l++) image[l] = image[LANES + l] = word, image[LANES * SLOT_CONFIG + l] = config;
+}
+
+static void put_swap(size_t i, uint32_t vc, uint32_t vd, uint32_t mod)
+{
+    put_insn(i, SWAP, 0, 0, vd, mod);
+    list[6 * i + F_VC] = vc;
+}
+
+/* Runs the first so many instructions. What was in the outcome must not show. */
+static uint32_t run(size_t count)
+{
+    memset(outcome, 0xA5, sizeof outcome);
+    return ind_run(settings, image, 768, dst, 16384, list, 6 * count, outcome);
+}
+
+static bool are(uint32_t c0, uint32_t c1, uint32_t c2, uint32_t c3, uint32_t c4, uint32_t c5, uint32_t c6, uint32_t c7)
+{
+    const uint32_t counts[8] = { c0, c1, c2, c3, c4, c5, c6, c7 };
+    return memcmp(outcome + O_TIES, counts, sizeof counts) == 0;
+}
+
+static bool all_are(uint32_t n) { return are(n, n, n, n, n, n, n, n); }
+
+/* One SWAP, from the image as it stands, which is put back. */
+static bool swap_counts(uint32_t vc, uint32_t vd, uint32_t mod, uint32_t each)
+{
+    static uint32_t kept[ROOM_IMAGE];
+    memcpy(kept, image, sizeof image);
+    put_swap(0, vc, vd, mod);
+    bool good = run(1) == 0 && is(0, 1, 0, 0) && all_are(each);
+    memcpy(image, kept, sizeof image);
+    return good;
+}
+
+enum { BELOW, EQUAL, ABOVE };
+
+/* What the comparison answers, seen from outside: with the minimum wanted in vd the index registers move exactly where vc ranks below it, and a tie is
+ * counted exactly where the two are equal. */
+static int compared(uint32_t c, uint32_t d)
+{
+    alike(0, 1 << 2);
+    for (unsigned l = 0; l < LANES; l++) image[l] = c, image[LANES + l] = d, image[LANES * 4 + l] = 1, image[LANES * 5 + l] = 2;
+    put_swap(0, 0, 1, 1);
+    CHECK(run(1) == 0 && (all_are(0) || all_are(4)));
+    bool swapped = image[LANES * 4] == 2, tied = outcome[O_TIES] == 4;
+    CHECK(!(swapped && tied));
+    return swapped ? BELOW : tied ? EQUAL : ABOVE;
+}
+
+static void three_answers(void)
+{
+    /* Rising. */
+    static const uint32_t words[] = { 0xFFFFFFFF, 0xFF800001, 0xFF800000, 0xBF800000, 0x80000001, 0x80000000, 0, 1, 0x3F800000, 0x7F800000, 0x7FFFFFFF };
+    CHECK(compared(0x80000000, 0) == BELOW && compared(0, 0x80000000) == ABOVE);                        /* K1 */
+    CHECK(compared(0, 0) == EQUAL && compared(0x80000000, 0x80000000) == EQUAL);                        /* K2 */
+    CHECK(compared(0xFFFFFFFF, 0xFF800000) == BELOW && compared(0xFF800000, 0xFFFFFFFF) == ABOVE);      /* K3 */
+    for (size_t i = 0; i < sizeof words / sizeof *words; i++)
+        for (size_t j = 0; j < sizeof words / sizeof *words; j++)
+            CHECK(compared(words[i], words[j]) == (i < j ? BELOW : i > j ? ABOVE : EQUAL));
+}
+
+static void which_lanes_tie(void)
+{
+    /* Every mod but 0, whatever bits 2 and 8 are, for any word. */
+    static const uint32_t words[] = { 0, 5, 0x80000000, 0x7FC00000, 0xFFFFFFFF };
+    for (size_t i = 0; i < sizeof words / sizeof *words; i++)
+        for (uint32_t config = 0; config < 4; config++) {
+            alike(words[i], (config & 1) << 2 | (config & 2) << 7);
+            CHECK(swap_counts(0, 1, 0, 0));
+            for (uint32_t mod = 1; mod < 16; mod++) CHECK(swap_counts(0, 1, mod, 4) && swap_counts(1, 0, mod, 4));
+        }
+
+    /* The two zeros are no tie. */
+    alike(0, 0);
+    for (unsigned l = 0; l < LANES; l++) image[l] = 0x80000000;
+    CHECK(swap_counts(0, 1, 1, 0) && swap_counts(1, 0, 1, 0) && swap_counts(1, 9, 1, 4));
+
+    /* A register with itself. From 12 on it is by bit 4, and for vd alone. */
+    for (uint32_t reg = 0; reg < 16; reg++) {
+        alike(5, 0);
+        CHECK(swap_counts(reg, reg, 9, reg < 12 ? 4 : 0) && swap_counts(reg, reg, 0, 0));
+        alike(5, 1 << 4);
+        CHECK(swap_counts(reg, reg, 9, 4) && swap_counts(reg, reg, 0, 0));
+    }
+    for (uint32_t vd = 11; vd < 15; vd++) {
+        alike(5, 0);
+        for (unsigned l = 0; l < LANES; l++) image[LANES * (SLOT_R11 + vd - 11) + l] = 5;
+        CHECK(swap_counts(0, vd, 3, vd == 11 ? 4 : 0) && swap_counts(vd, 0, 3, 4));
+        for (unsigned l = 0; l < 16; l++) image[LANES * SLOT_CONFIG + l] = 1 << 4;
+        CHECK(swap_counts(0, vd, 3, vd == 11 ? 4 : 2));
+    }
+
+    /* Registers that are never stored; twice the lane is 26 in lane 13 and 14 in lane 7. */
+    alike(0x3F56594B, 0);
+    CHECK(swap_counts(0, 8, 2, 4) && swap_counts(8, 1, 2, 4) && swap_counts(8, 10, 2, 0));
+    alike(0x3F800000, 0);
+    CHECK(swap_counts(10, 0, 15, 4) && swap_counts(0, 9, 15, 0));
+    alike(26, 0);
+    put_swap(0, 15, 0, 1);
+    CHECK(run(1) == 0 && are(0, 0, 0, 0, 0, 1, 0, 0));
+    alike(14, 0);
+    put_swap(0, 0, 15, 1);
+    CHECK(run(1) == 0 && all_are(0));
+    alike(14, 1 << 4);
+    CHECK(run(1) == 0 && are(0, 0, 0, 0, 0, 0, 0, 1));
+
+    /* Lanes not enabled: row 1 and, in column 2, row 3 too. Lane 20's LaneFlag enables it. */
+    alike(5, 0);
+    for (unsigned l = 8; l < 16; l++) image[LANES * SLOT_USE + l] = 1;
+    image[LANES * SLOT_USE + 26] = 1;
+    image[LANES * SLOT_USE + 20] = image[LANES * SLOT_FLAG + 20] = image[LANES * SLOT_FLAG + 21] = 1;
+    put_swap(0, 0, 1, 4);
+    CHECK(run(1) == 0 && are(3, 3, 2, 3, 3, 3, 3, 3));
+
+    /* A lane alone, by its column. */
+    for (unsigned l = 0; l < LANES; l++) {
+        alike(0, 0);
+        for (unsigned other = 0; other < LANES; other++) image[other] = other == l ? 0 : 7;
+        put_swap(0, 0, 1, 12);
+        CHECK(run(1) == 0);
+        for (unsigned c = 0; c < 8; c++) CHECK(outcome[O_TIES + c] == (c == l % 8));
+    }
+    alike(0, 0);
+    for (unsigned l = 0; l < LANES; l++) image[l] = 1;
+    image[0] = image[9] = image[17] = image[25] = image[18] = image[31] = 0;
+    put_swap(0, 1, 0, 6);
+    CHECK(run(1) == 0 && are(1, 3, 1, 0, 0, 0, 0, 1));
+}
+
+static void ties_over_a_list(void)
+{
+    /* They add up: all lanes; lane 13 alone, whose 26 is twice its number; mod 0; and no SWAP at all. */
+    alike(26, 0);
+    put_swap(0, 0, 1, 1), put_swap(1, 15, 0, 9);
+    CHECK(run(1) == 0 && all_are(4));
+    alike(26, 0);
+    CHECK(run(2) == 0 && are(4, 4, 4, 4, 4, 5, 4, 4));
+    alike(26, 0);
+    put_swap(0, 15, 2, 0), put_swap(1, 0, 1, 1), put_insn(2, NOP, 0, 0, 0, 0), put_swap(3, 1, 0, 2);
+    CHECK(run(4) == 0 && is(0, 4, 0, 0) && all_are(8));
+    CHECK(run(0) == 0 && all_are(0));
+    put_insn(0, XOR, 0, 0, 1, 0);
+    CHECK(run(1) == 0 && all_are(0));
+
+    /* The lane as it was before: made equal by the SWAP itself is none, and by an instruction before it is one. */
+    alike(7, 0);
+    put_swap(0, 0, 9, 9), put_swap(1, 0, 9, 9);                 /* register 0 takes 0, which 9 keeps */
+    CHECK(run(1) == 0 && all_are(0) && image[13] == 0);
+    alike(7, 0);
+    CHECK(run(2) == 0 && all_are(4));
+    alike(0, 1 << 2);
+    for (unsigned l = 0; l < LANES; l++) image[LANES + l] = 11, image[LANES * 5 + l] = 55;
+    put_swap(0, 1, 5, 1);                                       /* register 1 takes 5's word, which 5 keeps */
+    CHECK(run(1) == 0 && all_are(0) && image[LANES + 13] == 55 && image[LANES * 5 + 13] == 55);
+    alike(5, 1 << 2);
+    for (unsigned l = 0; l < LANES; l++) image[LANES * 4 + l] = 5, image[LANES * 5 + l] = 9;
+    put_swap(0, 4, 1, 9);                                       /* equal before, and then register 4 takes 5's word */
+    CHECK(run(1) == 0 && all_are(4) && image[LANES + 13] == 5 && image[LANES * 4 + 13] == 9);
+    alike(0, 0);
+    put_insn(0, LOADI, 6, 0, 0, 10), put_swap(1, 0, 1, 1), put_insn(2, LOADI, 0, 0, 1, 10), put_insn(3, LOADI, 0, 0, 0, 10);
+    CHECK(run(4) == 0 && all_are(0));                           /* 0 and 6 do not tie, though they end alike */
+    put_swap(4, 0, 1, 1);
+    alike(0, 0);
+    CHECK(run(5) == 0 && all_are(4));
+
+    /* LaneConfig and the flags too: bit 4 comes by CONFIG, to all lanes and to column 2 alone; and IADD takes every lane's flag away. */
+    alike(0, 0);
+    put_swap(0, 9, 12, 1), put_insn(1, CONFIG, 16, 0, 15, 1), put_swap(2, 9, 12, 1);
+    CHECK(run(3) == 0 && all_are(4));
+    alike(16, 0);
+    put_swap(0, 2, 12, 1), put_insn(1, CONFIG, 1 << 4, 0, 15, 8), put_swap(2, 2, 12, 1);
+    CHECK(run(3) == 0 && are(0, 0, 4, 0, 0, 0, 0, 0));
+    alike(5, 0);
+    for (unsigned l = 0; l < LANES; l++) image[LANES * SLOT_USE + l] = image[LANES * SLOT_FLAG + l] = 1;
+    put_swap(0, 0, 1, 1), put_insn(1, IADD, 0, 0, 2, 1), put_swap(2, 0, 1, 1);
+    CHECK(run(3) == 0 && all_are(4) && image[LANES * SLOT_FLAG + 13] == 0);
+
+    /* At most 4 an instruction: 1,024 instructions, each with every lane. */
+    alike(5, 0);
+    for (size_t i = 0; i < MAX_INSNS; i++) put_swap(i, 0, 1, 1 + i % 15);
+    CHECK(run(MAX_INSNS) == 0 && is(0, 1024, 0, 0) && all_are(4096));
+}
+
+static bool refused(uint32_t answer, uint32_t place) { return is(answer, 0, place, settings[S_CURSOR]) && all_are(0); }
+
+/* With ties in all lanes before what is refused, which a run must not tell of. */
+static void ties_refused(void)
+{
+    alike(5, 0);
+    settings[S_CURSOR] = 6;
+    put_swap(0, 0, 1, 1), put_swap(1, 1, 0, 9);
+    put_insn(2, 17, 0, 0, 0, 0);
+    CHECK(run(3) == 7 && refused(7, 2));
+    put_swap(2, 0, 16, 1);
+    CHECK(run(3) == 8 && refused(8, 2));
+    put_swap(2, 0, 1, 16);
+    CHECK(run(3) == 8 && refused(8, 2));
+    put_insn(2, LOAD, 0, 0, 0, 3);
+    CHECK(run(3) == 9 && refused(9, 2));
+    CHECK(run(1025) == 5 && refused(5, 0));
+    image[LANES * SLOT_MISC + 31] = 4096;
+    CHECK(run(2) == 6 && refused(6, 0));
+    image[LANES * SLOT_MISC + 31] = 0;
+    settings[S_CURSOR] = 1024;
+    CHECK(run(2) == 3 && refused(3, 0));
+    settings[S_CURSOR] = 6;
+    memset(outcome, 0xA5, sizeof outcome);
+    CHECK(ind_run(settings, image, 767, dst, 16384, list, 12, outcome) == 1 && refused(1, 0));
+    memset(outcome, 0xA5, sizeof outcome);
+    CHECK(ind_run(settings, image, 768, dst, 16383, list, 12, outcome) == 2 && refused(2, 0));
+    memset(outcome, 0xA5, sizeof outcome);
+    CHECK(ind_run(settings, image, 768, dst, 16384, list, 11, outcome) == 4 && refused(4, 0));
+    CHECK(run(2) == 0 && is(0, 2, 0, 6) && all_are(8));
+}
+
 /* Listings */
 
 static const char worked[] =
@@ -477,7 +700,9 @@ static void change(const char *from, const char *to)
 static uint32_t read_into(size_t room)
 {
     for (size_t i = 0; i < ROOM_LIST; i++) list[i] = 77;
+    memset(outcome, 0xA5, sizeof outcome);
     uint32_t answer = ind_read((const uint8_t *)text, text_len, list, room, settings, outcome);
+    CHECK(outcome[O_LENGTH + 1] == 0xA5A5A5A5);
     for (size_t i = outcome[O_LENGTH]; i < ROOM_LIST; i++) CHECK(list[i] == 77);
     CHECK(answer == outcome[O_ANSWER] && settings[S_CURSOR] == outcome[O_CURSOR]);
     if (answer != 0) {
@@ -520,7 +745,8 @@ static void listings(void)
     /* Written again it is the same text; a room one byte short is left alone. */
     memset(room, 9, sizeof room);
     CHECK(ind_write(settings, list, 6, room, sizeof worked - 2, outcome) == 11 && is(11, 0, 0, 0) && outcome[O_LENGTH] == 0 && room[0] == 9);
-    CHECK(ind_write(settings, list, 6, room, sizeof worked - 1, outcome) == 0 && outcome[O_LENGTH] == sizeof worked - 1);
+    memset(outcome, 0xA5, sizeof outcome);
+    CHECK(ind_write(settings, list, 6, room, sizeof worked - 1, outcome) == 0 && outcome[O_LENGTH] == sizeof worked - 1 && outcome[O_LENGTH + 1] == 0xA5A5A5A5);
     CHECK(memcmp(room, worked, sizeof worked - 1) == 0 && room[sizeof worked - 1] == 9);
     settings[S_CURSOR] = 7;
     CHECK(ind_write(settings, list, 5, room, 0, outcome) == 4 && is(4, 0, 0, 7));
@@ -595,6 +821,10 @@ int ind_selftest(void)
     stores();
     runs();
     runs_that_store();
+    three_answers();
+    which_lanes_tie();
+    ties_over_a_list();
+    ties_refused();
     listings();
     if (failures == 0) printf("selftest: all good\n");
     return failures == 0 ? 0 : 1;

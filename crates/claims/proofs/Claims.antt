@@ -2,6 +2,7 @@
 use mathlib.Core.Path.{_≡_, refl, sym, ap, _∙_}
 use Prim.Native.Nat.{ℕ}
 use native.Mathlib.Omega.{arith}
+use mathlib.Core.Bool.{Bool, not}
 use mathlib.Core.List.{List}
 use lib.ListN.{length}
 use lib.Dec.{eqb}
@@ -18,6 +19,7 @@ use Rattle.lane.specs.Rule.{lanewise, storesOf}
 use Rattle.lane.specs.Refusals.{pass, settingsGood, fieldsGood, instructionAnswer, laneAnswer, laneStep}
 use Rattle.lane.proofs.Cases.{pick-false}
 use Rattle.lane.proofs.Places.{lies, never-meet}
+use Rattle.lane.proofs.Ranks.{below-is}
 use Rattle.lane.proofs.Packed.{packed-unpacked, unpacked-packed}
 use Rattle.runner.specs.declared.Outcome.{Outcome}
 use Rattle.runner.specs.Checks.{runAnswer, listAnswer}
@@ -30,6 +32,7 @@ use Rattle.claims.proofs.Isolation.{isolation}
 use Rattle.claims.proofs.Instance as Instance
 use Rattle.claims.proofs.Runs as Runs
 use Rattle.claims.proofs.Cut.{cut-run}
+use Rattle.claims.proofs.Comparison as Comparison
 use Rattle.claims.proofs.Back.{gives-back}
 use Rattle.claims.proofs.Refusals as Refusals
 use Rattle.claims.proofs.Readings.{read-listing, held, held-listing}
@@ -59,7 +62,7 @@ refusal-touches-nothing s image dst list o x u r h =
         r .dst-is ∙ d .1 .1,
         (
           ap (λ (z : Outcome). z .answer) e,
-          (ap (λ (z : Outcome). z .place) e, (ap (λ (z : Outcome). z .steps) e, ap (λ (z : Outcome). z .cursor) e)),
+          (ap (λ (z : Outcome). z .place) e, (ap (λ (z : Outcome). z .steps) e, (ap (λ (z : Outcome). z .cursor) e, ap (λ (z : Outcome). z .ties) e))),
         ),
       ),
     )
@@ -78,7 +81,10 @@ goes-through-the-list s image dst list o x u r h =
     let d = Runs.done s image dst list (sym (answer-is s image dst list o x u r) ∙ h) in
     let e = r .outcome-is ∙ d .0 in (
       ap (λ (z : Outcome). z .steps) e,
-      (ap (λ (z : Outcome). z .place) e, (ap (λ (z : Outcome). z .cursor) e, (r .image-is ∙ d .1 .0, r .dst-is ∙ d .1 .1))),
+      (
+        ap (λ (z : Outcome). z .place) e,
+        (ap (λ (z : Outcome). z .cursor) e, (r .image-is ∙ d .1 .0, (r .dst-is ∙ d .1 .1, ap (λ (z : Outcome). z .ties) e))),
+      ),
     )
 
 pub well-formed-stays : Claims.WellFormedStays
@@ -93,6 +99,28 @@ pub can-be-cut : Claims.CanBeCut
 unfolding Claims.CanBeCut
 can-be-cut s image dst a b o p q x u middle between end ended six ran h first rest =
     cut-run s a b image dst six (sym (answer-is s image dst _ o x u ran) ∙ h) o p q x u middle between end ended ran first rest
+
+-- ---- SWAP's comparison, and ties
+
+pub one-answer-holds : Claims.OneAnswerHolds
+unfolding Claims.OneAnswerHolds
+one-answer-holds c d = (Comparison.holds c d, Comparison.alone c d)
+
+pub operands-mirror : Claims.OperandsMirror
+unfolding Claims.OperandsMirror
+operands-mirror = Comparison.mirror
+
+pub equal-if-the-words-are : Claims.EqualIfTheWordsAre
+unfolding Claims.EqualIfTheWordsAre
+equal-if-the-words-are = Comparison.words
+
+pub decision-stays : Claims.DecisionStays
+unfolding Claims.DecisionStays
+decision-stays minimum c d = ap (λ (t : Bool). pick minimum t (not t)) (below-is c d)
+
+pub at-most-four-ties : Claims.AtMostFourTies
+unfolding Claims.AtMostFourTies
+at-most-four-ties s image dst list o x u c r = rw (r .outcome-is) (Runs.few-counted s image dst list c)
 
 -- ---- STORE
 

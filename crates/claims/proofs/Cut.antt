@@ -14,12 +14,11 @@ use Rattle.lane.proofs.Accepted.{settings-in-range, in-range-settings}
 use Rattle.runner.specs.declared.Found.{Found}
 use Rattle.runner.specs.declared.Outcome.{Outcome}
 use Rattle.runner.specs.Checks.{countOf, runAnswer}
-use Rattle.runner.specs.Run.{Machine, stepped, steps, finish, Ran}
-use Rattle.runner.proofs.Steps.{begin}
+use Rattle.runner.specs.Run.{Machine, stepped, steps, begin, finish, whenDone, Ran}
 use Rattle.runner.proofs.Accepted.{Accepted, accepted, run-accepted}
-use Rattle.claims.specs.Claims.{withCursor}
+use Rattle.claims.specs.Claims.{withCursor, PartsOf}
 use Rattle.claims.proofs.Kept.{good-steps, length-steps, length-dst-steps}
-use Rattle.claims.proofs.Runs.{done, insn-first, insn-second, cut}
+use Rattle.claims.proofs.Runs.{done, insn-first, insn-second, cut, cut-ties}
 
 -- ---- the cursor stays in its range
 
@@ -118,11 +117,11 @@ module _ (s : Settings) (a b image dst : List ℕ) (six : length a % 6 ≡ 0) (h
   module _ (o p q : Outcome) (after stored middle between end ended : List ℕ) (ran : Ran s image dst (a ++ b) o after stored)
       (ran-first : Ran s image dst a p middle between) (ran-rest : Ran (withCursor (p .cursor) s) middle between b q end ended) where
     -- what each of the three runs comes to
-    whole-is : (o ≡ record { answer = 0; steps = countOf (a ++ b); place = 0; cursor = finish s image dst (a ++ b) .cursor })
+    whole-is : (o ≡ whenDone s image dst (a ++ b))
         × ((after ≡ finish s image dst (a ++ b) .image) × (stored ≡ finish s image dst (a ++ b) .dst))
     whole-is = let d = done s image dst (a ++ b) h in (ran .outcome-is ∙ d .0, (ran .image-is ∙ d .1 .0, ran .dst-is ∙ d .1 .1))
 
-    first-is : (p ≡ record { answer = 0; steps = countOf a; place = 0; cursor = finish s image dst a .cursor })
+    first-is : (p ≡ whenDone s image dst a)
         × ((middle ≡ finish s image dst a .image) × (between ≡ finish s image dst a .dst))
     first-is = let d = done s image dst a first-accepted in (ran-first .outcome-is ∙ d .0, (ran-first .image-is ∙ d .1 .0, ran-first .dst-is ∙ d .1 .1))
 
@@ -130,7 +129,7 @@ module _ (s : Settings) (a b image dst : List ℕ) (six : length a % 6 ≡ 0) (h
     rest : Machine
     rest = finish rest-settings (finish s image dst a .image) (finish s image dst a .dst) b
 
-    rest-is : (q ≡ record { answer = 0; steps = countOf b; place = 0; cursor = rest .cursor }) × ((end ≡ rest .image) × (ended ≡ rest .dst))
+    rest-is : (q ≡ whenDone rest-settings (finish s image dst a .image) (finish s image dst a .dst) b) × ((end ≡ rest .image) × (ended ≡ rest .dst))
     unfolding rest-settings rest
     rest-is =
         let c : p .cursor ≡ finish s image dst a .cursor = ap (λ (x : Outcome). x .cursor) (first-is .0) in
@@ -144,24 +143,20 @@ module _ (s : Settings) (a b image dst : List ℕ) (six : length a % 6 ≡ 0) (h
     unfolding rest-settings rest
     same-end = cut s a b image dst six
 
-    pub cut-run : (p .answer ≡ 0)
-        × ((q .answer ≡ 0) × ((end ≡ after) × ((ended ≡ stored) × ((q .cursor ≡ o .cursor) × (o .steps ≡ p .steps + q .steps)))))
-    cut-run = (
-      ap (λ (x : Outcome). x .answer) (first-is .0),
-      (
-        ap (λ (x : Outcome). x .answer) (rest-is .0),
-        (
-          rest-is .1 .0 ∙ sym (whole-is .1 .0 ∙ ap (λ (m : Machine). m .image) same-end),
-          (
-            rest-is .1 .1 ∙ sym (whole-is .1 .1 ∙ ap (λ (m : Machine). m .dst) same-end),
-            (
+    pub cut-run : PartsOf o p q after stored end ended
+    unfolding rest-settings rest
+    cut-run =
+        record {
+          first-done = ap (λ (x : Outcome). x .answer) (first-is .0);
+          second-done = ap (λ (x : Outcome). x .answer) (rest-is .0);
+          image = rest-is .1 .0 ∙ sym (whole-is .1 .0 ∙ ap (λ (m : Machine). m .image) same-end);
+          dst = rest-is .1 .1 ∙ sym (whole-is .1 .1 ∙ ap (λ (m : Machine). m .dst) same-end);
+          cursor =
               ap (λ (x : Outcome). x .cursor) (rest-is .0)
-                  ∙ sym (ap (λ (x : Outcome). x .cursor) (whole-is .0) ∙ ap (λ (m : Machine). m .cursor) same-end),
+              ∙ sym (ap (λ (x : Outcome). x .cursor) (whole-is .0) ∙ ap (λ (m : Machine). m .cursor) same-end);
+          steps =
               ap (λ (x : Outcome). x .steps) (whole-is .0) ∙ added
-                  ∙ ap (λ (n : ℕ). n + countOf b) (sym (ap (λ (x : Outcome). x .steps) (first-is .0)))
-                  ∙ ap (λ (n : ℕ). p .steps + n) (sym (ap (λ (x : Outcome). x .steps) (rest-is .0))),
-            ),
-          ),
-        ),
-      ),
-    )
+              ∙ ap (λ (n : ℕ). n + countOf b) (sym (ap (λ (x : Outcome). x .steps) (first-is .0)))
+              ∙ ap (λ (n : ℕ). p .steps + n) (sym (ap (λ (x : Outcome). x .steps) (rest-is .0)));
+          ties = λ c. rw (whole-is .0, first-is .0, rest-is .0) (cut-ties s a b image dst c six);
+        }

@@ -1,28 +1,30 @@
--- Two runs that isolation speaks of: a LOAD of the cell under lane 0, which is then stored four rows on, over images that differ in lane 1 and Dsts that differ
--- in cell 2. Assumes nothing.
+-- Two runs that isolation speaks of: a SWAP of registers 0 and 1, then a LOAD of the cell under lane 0, which is then stored four rows on, over images that
+-- differ in lane 1 and Dsts that differ in cell 2. Assumes nothing.
 use mathlib.Core.Path.{_≡_, refl, sym, ap, _∙_}
-use Prim.Native.Nat.{ℕ, zero, suc, _<_}
+use Prim.Native.Nat.{ℕ, zero, suc, _+_, _<_}
 use native.Mathlib.Omega.{arith}
 use mathlib.Core.Bool.{Bool, true, false, _&&_}
 use mathlib.Core.List.{List, [], _∷_}
-use lib.ListN.{getD}
+use lib.ListN.{length, getD}
 use lib.Dec.{eqb}
 use borrow.Author.Tests.{ne-eqb, eqb-false}
 use Rattle.lane.specs.declared.Settings.{Settings}
 use Rattle.lane.specs.declared.Insn.{Insn}
-use Rattle.lane.specs.Words.{pick, bit, Lane, build, reg, after, upd}
+use Rattle.lane.specs.Words.{pick, bit, flagOf, Lane, build, reg, after, upd}
 use Rattle.lane.specs.Load.{stride, nextCursor, load, loadWith, loaded, resolved}
 use Rattle.lane.specs.Store.{withCell, storedCell, store}
-use Rattle.lane.specs.Rule.{lanewise, storesOf, cellsOf}
+use Rattle.lane.specs.Swap.{rank, ranksBelow, ranksEqual, compared, swaps, swapWith, swap, tiedWith, tied}
+use Rattle.lane.specs.Rule.{lanewise, storesOf, cellsOf, isTied}
 use Rattle.lane.specs.Refusals.{pass, settingsGood, fieldsGood, instructionAnswer}
 use Rattle.lane.proofs.Places.{even-place}
 use Rattle.lane.proofs.Stores.{length-build, getD-build}
 use Rattle.runner.specs.declared.Found.{Found}
+use Rattle.runner.specs.declared.Outcome.{Outcome}
 use Rattle.runner.specs.Image.{laneIn, ofLanes}
 use Rattle.runner.specs.Checks.{insnAt, runAnswer}
-use Rattle.runner.specs.Run.{evenCell, oddCell, laneAfter, imageAt, imageAfter, cellsAfter, dstAt, dstAfter, stepped, steps, finish, outcomeOf, runImage, runDst}
+use Rattle.runner.specs.Run.{evenCell, oddCell, laneAfter, imageAt, imageAfter, cellsAfter, dstAt, dstAfter, stepped, steps, begin, finish, overColumn, tiesAfter, outcomeOf, runImage, runDst}
 use Rattle.runner.proofs.Lanes.{lane-of-lanes, length-lanes}
-use Rattle.runner.proofs.Dsts.{cell-of}
+use Rattle.runner.proofs.Dsts.{cell-of, dst-kept}
 use Rattle.runner.proofs.Accepted.{Each, run-accepted}
 use Rattle.claims.specs.Twelve.{plainly}
 use Rattle.claims.specs.Claims.{WellFormedImage, SameColumn, SameCells, TwoRuns}
@@ -89,7 +91,10 @@ cells-1 h =
     eqb-false 0 7 refl
     (sym (getD-build 16384 nine 2 (omega arith)) ∙ h 2 (omega arith) refl ∙ getD-build 16384 nine-and-seven 2 (omega arith))
 
--- ---- the list: LOAD of a cell as a number, to register 0, and STORE of that to address 4
+-- ---- the list: SWAP of registers 0 and 1, which are equal but for lane 1 of one image; LOAD of a cell as a number, to register 0; STORE of that to address 4
+
+abbrev swapping : Insn
+swapping = record { op = 4; imm = 0; vb = 0; vc = 0; vd = 1; md = 1 }
 
 abbrev loading : Insn
 loading = record { op = 1; imm = 0; vb = 0; vc = 0; vd = 0; md = 6 }
@@ -97,55 +102,90 @@ loading = record { op = 1; imm = 0; vb = 0; vc = 0; vd = 0; md = 6 }
 abbrev storing : Insn
 storing = record { op = 16; imm = 4; vb = 0; vc = 0; vd = 0; md = 6 }
 
-abbrev two-list : List ℕ
-two-list = 1 ∷ 0 ∷ 0 ∷ 0 ∷ 0 ∷ 6 ∷ 16 ∷ 4 ∷ 0 ∷ 0 ∷ 0 ∷ 6 ∷ []
+abbrev three-list : List ℕ
+three-list = 4 ∷ 0 ∷ 0 ∷ 0 ∷ 1 ∷ 1 ∷ 1 ∷ 0 ∷ 0 ∷ 0 ∷ 0 ∷ 6 ∷ 16 ∷ 4 ∷ 0 ∷ 0 ∷ 0 ∷ 6 ∷ []
 
-each-good : Each two-list
+each-good : Each three-list
 unfolding insnAt instructionAnswer fieldsGood pass pick
 each-good zero l = refl
 each-good (suc zero) l = refl
-each-good (suc (suc j)) l = absurd (none j l)
+each-good (suc (suc zero)) l = refl
+each-good (suc (suc (suc j))) l = absurd (none j l)
   where
-    none : (j : ℕ) → suc (suc j) < 2 → ⊥
+    none : (j : ℕ) → suc (suc (suc j)) < 3 → ⊥
     none j l = omega arith
 
 good-settings : settingsGood plainly ≡ true
 unfolding settingsGood
 good-settings = refl
 
-accepted-list : runAnswer plainly (ofLanes zeros) one-dst two-list .answer ≡ 0
-unfolding one-dst
-accepted-list =
+accepts : (image dst : List ℕ) → WellFormedImage image → length dst ≡ 16384 → runAnswer plainly image dst three-list .answer ≡ 0
+accepts image dst w e =
     ap (λ (f : Found). f .answer)
-    (run-accepted plainly (ofLanes zeros) one-dst two-list
+    (run-accepted plainly image dst three-list
     (record {
       passed =
           record {
-            image-long = length-lanes zeros;
-            dst-long = length-build 16384 nine;
+            image-long = w .long;
+            dst-long = e;
             list-given = record { settings-good = good-settings; six = refl; few = omega arith };
-            image-good = zeros-formed .good;
+            image-good = w .good;
           };
       each = each-good;
     }))
 
--- what LOAD leaves
+accepted-list : runAnswer plainly (ofLanes zeros) one-dst three-list .answer ≡ 0
+unfolding one-dst
+accepted-list = accepts (ofLanes zeros) one-dst zeros-formed (length-build 16384 nine)
+
+accepted-other : runAnswer plainly (ofLanes five) two-dst three-list .answer ≡ 0
+unfolding two-dst
+accepted-other = accepts (ofLanes five) two-dst five-formed (length-build 16384 nine-and-seven)
+
+-- what SWAP leaves
+image-0 : List ℕ
+image-0 = imageAfter plainly swapping 0 (ofLanes zeros) one-dst
+
+dst-0 : List ℕ
+dst-0 = dstAfter plainly swapping 0 (ofLanes zeros) one-dst
+
+-- what LOAD leaves after it
 image-1 : List ℕ
-image-1 = imageAfter plainly loading 0 (ofLanes zeros) one-dst
+image-1 = imageAfter plainly loading 0 image-0 dst-0
 
 dst-1 : List ℕ
-dst-1 = dstAfter plainly loading 0 (ofLanes zeros) one-dst
+dst-1 = dstAfter plainly loading 0 image-0 dst-0
 
--- and what STORE leaves after it
+-- and what STORE leaves after that
 image-2 : List ℕ
 image-2 = imageAfter plainly storing 0 image-1 dst-1
 
 dst-2 : List ℕ
 dst-2 = dstAfter plainly storing 0 image-1 dst-1
 
-finish-is : (finish plainly (ofLanes zeros) one-dst two-list .image ≡ image-2) × (finish plainly (ofLanes zeros) one-dst two-list .dst ≡ dst-2)
-unfolding steps stepped insnAt nextCursor stride pick image-1 dst-1 image-2 dst-2
+finish-is : (finish plainly (ofLanes zeros) one-dst three-list .image ≡ image-2) × (finish plainly (ofLanes zeros) one-dst three-list .dst ≡ dst-2)
+unfolding steps stepped insnAt nextCursor stride pick image-0 dst-0 image-1 dst-1 image-2 dst-2
 finish-is = (refl, refl)
+
+-- ---- lane 0 after SWAP: as it was, since equal words wait where vd wants the minimum
+
+swaps-none : (s : Settings) (head own : Lane) (even odd : ℕ) → own 0 ≡ 0 → own 1 ≡ 0 → own 12 ≡ 0 → own 14 ≡ 0 → (t : ℕ)
+    → after (storesOf 4 s 0 swapping 0 head even odd own) own t ≡ own t
+unfolding storesOf lanewise swap swapWith swaps compared ranksBelow ranksEqual rank reg after pick
+swaps-none s head own even odd a b c u t = simp (a, b, c, u)
+
+zero-at : (s : ℕ) → s < 24 → laneIn image-0 0 s ≡ 0
+unfolding image-0 imageAfter imageAt laneAfter
+zero-at s l =
+    lane-of-lanes (laneAfter plainly swapping 0 (ofLanes zeros) one-dst) 0 s (omega arith) l
+    ∙ swaps-none plainly (laneIn (ofLanes zeros) 0) (laneIn (ofLanes zeros) 0) (evenCell one-dst 0 0) (oddCell one-dst 0 0)
+    (lane-of-lanes zeros 0 0 (omega arith) (omega arith)) (lane-of-lanes zeros 0 1 (omega arith) (omega arith))
+    (lane-of-lanes zeros 0 12 (omega arith) (omega arith)) (lane-of-lanes zeros 0 14 (omega arith) (omega arith)) s
+    ∙ lane-of-lanes zeros 0 s (omega arith) l
+
+same-dst : one-dst ≡ dst-0
+unfolding one-dst dst-0 dstAfter
+same-dst = dst-kept swapping 0 (ofLanes zeros) one-dst (λ z. omega arith) (length-build 16384 nine)
 
 -- ---- lane 0 after LOAD: register 0 holds the cell, LaneConfig and UseFlag are 0 as before
 
@@ -154,19 +194,17 @@ loads-even : (s : Settings) (head own : Lane) (even odd : ℕ) → head 12 ≡ 0
 unfolding storesOf lanewise load loadWith loaded resolved after upd pick
 loads-even s head own even odd h c u t = simp (h, c, u)
 
-zero-at : (s : ℕ) → s < 24 → laneIn (ofLanes zeros) 0 s ≡ 0
-zero-at s l = lane-of-lanes zeros 0 s (omega arith) l
-
-lane-1 : (t : ℕ) → t < 24 → laneIn image-1 0 t ≡ pick (eqb t 0) (evenCell one-dst 0 0) (laneIn (ofLanes zeros) 0 t)
+lane-1 : (t : ℕ) → t < 24 → laneIn image-1 0 t ≡ pick (eqb t 0) (evenCell dst-0 0 0) (laneIn image-0 0 t)
 unfolding image-1 imageAfter imageAt laneAfter
 lane-1 t l =
-    lane-of-lanes (laneAfter plainly loading 0 (ofLanes zeros) one-dst) 0 t (omega arith) l
-    ∙ loads-even plainly (laneIn (ofLanes zeros) 0) (laneIn (ofLanes zeros) 0) (evenCell one-dst 0 0) (oddCell one-dst 0 0) (zero-at 12 (omega arith))
+    lane-of-lanes (laneAfter plainly loading 0 image-0 dst-0) 0 t (omega arith) l
+    ∙ loads-even plainly (laneIn image-0 0) (laneIn image-0 0) (evenCell dst-0 0 0) (oddCell dst-0 0 0) (zero-at 12 (omega arith))
     (zero-at 12 (omega arith)) (zero-at 14 (omega arith)) t
 
-first-cell : evenCell one-dst 0 0 ≡ 9
+first-cell : evenCell dst-0 0 0 ≡ 9
 unfolding one-dst pick
-first-cell = ap (λ (k : ℕ). getD one-dst k 0) (sym (even-place 0 0)) ∙ getD-build 16384 nine 0 (omega arith)
+first-cell =
+    ap (λ (d : List ℕ). evenCell d 0 0) (sym same-dst) ∙ ap (λ (k : ℕ). getD one-dst k 0) (sym (even-place 0 0)) ∙ getD-build 16384 nine 0 (omega arith)
 
 word-1 : laneIn image-1 0 0 ≡ 9
 unfolding pick
@@ -197,33 +235,89 @@ cell-2 =
     ∙ cell-of 4 dst-1 (cellsAfter storing 4 image-1 dst-1) 0 false (omega arith) (omega arith)
     ∙ stores-even (laneIn image-1 0) (laneIn image-1 0 12) _ _ config-1 use-1 word-1
 
-changes : SameColumn 0 (ofLanes zeros) (runImage plainly (ofLanes zeros) one-dst two-list) → ⊥
+changes : SameColumn 0 (ofLanes zeros) (runImage plainly (ofLanes zeros) one-dst three-list) → ⊥
 unfolding SameColumn
 changes h =
     eqb-false 0 9 refl
     (sym (lane-of-lanes zeros 0 0 (omega arith) (omega arith)) ∙ h 0 0 (omega arith) refl (omega arith)
-    ∙ ap (λ (x : List ℕ). laneIn x 0 0) (done plainly (ofLanes zeros) one-dst two-list accepted-list .1 .0 ∙ finish-is .0) ∙ word-2)
+    ∙ ap (λ (x : List ℕ). laneIn x 0 0) (done plainly (ofLanes zeros) one-dst three-list accepted-list .1 .0 ∙ finish-is .0) ∙ word-2)
 
-changes-cells : SameCells 0 one-dst (runDst plainly (ofLanes zeros) one-dst two-list) → ⊥
+changes-cells : SameCells 0 one-dst (runDst plainly (ofLanes zeros) one-dst three-list) → ⊥
 unfolding SameCells one-dst pick
 changes-cells h =
     eqb-false 0 9 refl
     (sym (getD-build 16384 nine 64 (omega arith)) ∙ h 64 (omega arith) refl
-    ∙ ap (λ (x : List ℕ). getD x 64 0) (done plainly (ofLanes zeros) one-dst two-list accepted-list .1 .1 ∙ finish-is .1) ∙ cell-2)
+    ∙ ap (λ (x : List ℕ). getD x 64 0) (done plainly (ofLanes zeros) one-dst three-list accepted-list .1 .1 ∙ finish-is .1) ∙ cell-2)
+
+-- ---- the ties: SWAP alone compares, and each lane of zeros meets an equal pair
+
+tied-zeros : (L : ℕ) (own : Lane) → own 0 ≡ 0 → own 1 ≡ 0 → own 14 ≡ 0 → flagOf (isTied 4 swapping L own) ≡ 1
+unfolding isTied tied tiedWith compared ranksBelow ranksEqual rank reg flagOf pick
+tied-zeros L own a b u = simp (a, b, u)
+
+untied-five : (L : ℕ) (own : Lane) → own 0 ≡ 5 → own 1 ≡ 0 → own 14 ≡ 0 → flagOf (isTied 4 swapping L own) ≡ 0
+unfolding isTied tied tiedWith compared ranksBelow ranksEqual rank reg flagOf pick
+untied-five L own a b u = simp (a, b, u)
+
+counted-is : (image dst : List ℕ) (c : ℕ)
+    → tiesAfter plainly three-list 3 (begin plainly image dst) c ≡ overColumn (λ L. flagOf (isTied 4 swapping L (laneIn image L))) c
+unfolding tiesAfter steps insnAt isTied flagOf pick
+counted-is image dst c = whole (overColumn (λ L. flagOf (isTied 4 swapping L (laneIn image L))) c)
+  where
+    whole : (x : ℕ) → 0 + x + 0 + 0 ≡ x
+    whole x = omega arith
+
+count-of : (image dst : List ℕ) (c : ℕ) → runAnswer plainly image dst three-list .answer ≡ 0 → c < 8
+    → getD (outcomeOf plainly image dst three-list .ties) c 0 ≡ overColumn (λ L. flagOf (isTied 4 swapping L (laneIn image L))) c
+count-of image dst c h l =
+    ap (λ (o : Outcome). getD (o .ties) c 0) (done plainly image dst three-list h .0)
+    ∙ getD-build 8 (tiesAfter plainly three-list 3 (begin plainly image dst)) c l ∙ counted-is image dst c
+
+sum : (a b c d x y z w : ℕ) → a ≡ x → b ≡ y → c ≡ z → d ≡ w → a + b + c + d ≡ x + y + z + w
+sum a b c d x y z w p q r s = omega arith
+
+zeros-tied : (L : ℕ) → L < 32 → flagOf (isTied 4 swapping L (laneIn (ofLanes zeros) L)) ≡ 1
+zeros-tied L l =
+    tied-zeros L (laneIn (ofLanes zeros) L) (lane-of-lanes zeros L 0 l (omega arith)) (lane-of-lanes zeros L 1 l (omega arith))
+    (lane-of-lanes zeros L 14 l (omega arith))
+
+zeros-count : (c : ℕ) → c < 8 → getD (outcomeOf plainly (ofLanes zeros) one-dst three-list .ties) c 0 ≡ 4
+zeros-count c l =
+    count-of (ofLanes zeros) one-dst c accepted-list l
+    ∙ sum _ _ _ _ 1 1 1 1 (zeros-tied c (omega arith)) (zeros-tied (8 + c) (omega arith)) (zeros-tied (16 + c) (omega arith)) (zeros-tied (24 + c) (omega arith))
+
+five-tied : (L : ℕ) → L < 32 → (L ≡ 1 → ⊥) → flagOf (isTied 4 swapping L (laneIn (ofLanes five) L)) ≡ 1
+unfolding pick
+five-tied L l n =
+    tied-zeros L (laneIn (ofLanes five) L)
+    (lane-of-lanes five L 0 l (omega arith) ∙ ap (λ (t : Bool). pick t 5 0) (ne-eqb L 1 n))
+    (lane-of-lanes five L 1 l (omega arith)) (lane-of-lanes five L 14 l (omega arith))
+
+five-count : getD (outcomeOf plainly (ofLanes five) two-dst three-list .ties) 1 0 ≡ 3
+unfolding pick
+five-count =
+    count-of (ofLanes five) two-dst 1 accepted-other (omega arith)
+    ∙ sum _ _ _ _ 0 1 1 1
+    (untied-five 1 (laneIn (ofLanes five) 1) (lane-of-lanes five 1 0 (omega arith) (omega arith)) (lane-of-lanes five 1 1 (omega arith) (omega arith))
+    (lane-of-lanes five 1 14 (omega arith) (omega arith)))
+    (five-tied 9 (omega arith) (λ z. omega arith)) (five-tied 17 (omega arith) (λ z. omega arith)) (five-tied 25 (omega arith) (λ z. omega arith))
 
 pub two-runs : TwoRuns
 unfolding one-dst two-dst
 two-runs =
     record {
       settings = plainly;
-      list = two-list;
+      list = three-list;
       image = ofLanes zeros;
       other-image = ofLanes five;
       dst = one-dst;
       other-dst = two-dst;
-      outcome = outcomeOf plainly (ofLanes zeros) one-dst two-list;
-      after = runImage plainly (ofLanes zeros) one-dst two-list;
-      stored = runDst plainly (ofLanes zeros) one-dst two-list;
+      outcome = outcomeOf plainly (ofLanes zeros) one-dst three-list;
+      other-outcome = outcomeOf plainly (ofLanes five) two-dst three-list;
+      after = runImage plainly (ofLanes zeros) one-dst three-list;
+      other-after = runImage plainly (ofLanes five) two-dst three-list;
+      stored = runDst plainly (ofLanes zeros) one-dst three-list;
+      other-stored = runDst plainly (ofLanes five) two-dst three-list;
       formed = zeros-formed;
       other-formed = five-formed;
       dst-long = length-build 16384 nine;
@@ -233,7 +327,10 @@ two-runs =
       images-differ = column-1;
       dsts-differ = cells-1;
       ran = record { outcome-is = refl; image-is = refl; dst-is = refl };
-      accepted = answered plainly (ofLanes zeros) one-dst two-list ∙ accepted-list;
+      other-ran = record { outcome-is = refl; image-is = refl; dst-is = refl };
+      accepted = answered plainly (ofLanes zeros) one-dst three-list ∙ accepted-list;
       changed = changes;
       cells-changed = changes-cells;
+      tied = zeros-count 0 (omega arith);
+      counts-differ = λ h. eqb-false 4 3 refl (sym (zeros-count 1 (omega arith)) ∙ h ∙ five-count);
     }

@@ -1,7 +1,7 @@
 -- Demand 3. No operation is looked at: a lane's rule is handed its own words, row 0's words of its column and its two cells, so equal ones give
--- equal lanes and equal cells. Assumes nothing.
+-- equal lanes, equal cells and equal ties. Assumes nothing.
 use mathlib.Core.Path.{_≡_, refl, sym, ap, _∙_, subst}
-use Prim.Native.Nat.{ℕ, zero, suc, _%_, _<_}
+use Prim.Native.Nat.{ℕ, zero, suc, _+_, _%_, _<_}
 use native.Mathlib.Omega.{arith}
 use mathlib.Core.Bool.{Bool, true, false}
 use mathlib.Core.List.{List}
@@ -14,17 +14,15 @@ use Rattle.lane.specs.Words.{pick, bit, Lane}
 use Rattle.lane.specs.Load.{address, placeOf, isMet, ownerOf}
 use Rattle.lane.proofs.Depends.{same-lane, same-cells}
 use Rattle.lane.proofs.Places.{lies}
-use Rattle.runner.specs.declared.Found.{Found}
-use Rattle.runner.specs.declared.Outcome.{Outcome}
 use Rattle.runner.specs.Image.{laneIn}
 use Rattle.runner.specs.Checks.{insnAt, countOf, runAnswer}
-use Rattle.runner.specs.Run.{Machine, evenCell, oddCell, laneAfter, imageAt, imageAfter, cellsAfter, dstAt, dstAfter, cursorAfter, stepped, steps, finish, outcomeOf, runImage, runDst}
+use Rattle.runner.specs.Run.{Machine, evenCell, oddCell, laneAfter, imageAt, imageAfter, cellsAfter, dstAt, dstAfter, cursorAfter, stepped, steps, begin, finish, tiesAfter, whenDone, whenRefused, outcomeOf, runImage, runDst}
 use Rattle.runner.proofs.Lanes.{lane-of-lanes, equal-lanes}
 use Rattle.runner.proofs.Accepted.{run-listed}
 use Rattle.runner.proofs.Dsts.{ownCell, cell-at}
-use Rattle.runner.proofs.Steps.{begin}
 use Rattle.claims.proofs.Kept.{length-steps}
-use Rattle.claims.specs.Claims.{WellFormedImage, SameColumn, SameCells, Isolated}
+use Rattle.claims.proofs.Runs.{counted-by}
+use Rattle.claims.specs.Claims.{WellFormedImage, SameOutcome, SameColumn, SameCells, Isolated}
 
 -- ---- one lane of the column, over one instruction
 
@@ -115,42 +113,74 @@ answers-same s list a b d e wa wb ld le = run-listed s a d list (wa .long) ld (w
 
 -- ---- the theorem
 
-outcomes-same : (s : Settings) (list a b d e : List ℕ) → WellFormedImage a → WellFormedImage b → length d ≡ 16384 → length e ≡ 16384
-    → outcomeOf s a d list ≡ outcomeOf s b e list
-unfolding outcomeOf
-outcomes-same s list a b d e wa wb ld le =
-    ap (λ (f : Found). pick (eqb (f .answer) 0) (record { answer = 0; steps = countOf list; place = 0; cursor = finish s a d list .cursor }) (record { answer = f .answer; steps = 0; place = f .place; cursor = s .cursor }))
-    (answers-same s list a b d e wa wb ld le)
-    ∙ ap (λ (x : ℕ). pick {X = Outcome} (eqb (runAnswer s b e list .answer) 0) (record { answer = 0; steps = countOf list; place = 0; cursor = x }) (record { answer = runAnswer s b e list .answer; steps = 0; place = runAnswer s b e list .place; cursor = s .cursor }))
-    (cursor-same s list a b d e (countOf list))
+-- a column's own ties, instruction by instruction
+ties-isolated : (c : ℕ) (s : Settings) (list a b d e : List ℕ) → length a ≡ 768 → length b ≡ 768 → SameColumn c a b → SameCells c d e → c < 8
+    → (n : ℕ)
+    → tiesAfter s list n (begin s a d) c ≡ tiesAfter s list n (begin s b e) c
+unfolding tiesAfter
+ties-isolated c s list a b d e la lb h k l zero = refl
+ties-isolated c s list a b d e la lb h k l (suc n) =
+    cc (
+      ties-isolated c s list a b d e la lb h k l n,
+      lane c (omega arith) (omega arith),
+      lane (8 + c) (omega arith) (omega arith),
+      lane (16 + c) (omega arith) (omega arith),
+      lane (24 + c) (omega arith) (omega arith),
+    )
+  where
+    A : Machine
+    A = steps s list n (begin s a d)
+
+    B : Machine
+    B = steps s list n (begin s b e)
+
+    lane : (L : ℕ) → L < 32 → L % 8 ≡ c → laneIn (A .image) L ≡ laneIn (B .image) L
+    lane L m q =
+        let j = steps-isolated c s list a b d e la lb h k n in
+        column-lane c (A .image) (B .image) (A .dst) (B .dst) (length-steps s list n (begin s a d) la) (length-steps s list n (begin s b e) lb) (j .0) (j .1) L m q
 
 -- one choice made twice keeps a relation, and so do equations
-picked : (R : List ℕ → List ℕ → Type 0) (t : Bool) (x y a b : List ℕ) → R x y → R a b → R (pick t x a) (pick t y b)
+picked : {X : Type 0} (R : X → X → Type 0) (t : Bool) (x y a b : X) → R x y → R a b → R (pick t x a) (pick t y b)
 unfolding pick
 picked R true x y a b h k = h
 picked R false x y a b h k = k
 
-through : (R : List ℕ → List ℕ → Type 0) (x y a b : List ℕ) → x ≡ a → y ≡ b → R a b → R x y
-through R x y a b p q h = subst (λ (z : List ℕ). R z y) (sym p) (subst (λ (z : List ℕ). R a z) (sym q) h)
+through : {X : Type 0} (R : X → X → Type 0) (x y a b : X) → x ≡ a → y ≡ b → R a b → R x y
+through {X} R x y a b p q h = subst (λ (z : X). R z y) (sym p) (subst (λ (z : X). R a z) (sym q) h)
 
 left-same : (c : ℕ) (s : Settings) (list a b d e : List ℕ) → WellFormedImage a → WellFormedImage b → length d ≡ 16384 → length e ≡ 16384
     → SameColumn c a b → SameCells c d e
-    → SameColumn c (runImage s a d list) (runImage s b e list) × SameCells c (runDst s a d list) (runDst s b e list)
-unfolding runImage runDst
+    → SameOutcome c (outcomeOf s a d list) (outcomeOf s b e list)
+    × (SameColumn c (runImage s a d list) (runImage s b e list) × SameCells c (runDst s a d list) (runDst s b e list))
+unfolding outcomeOf runImage runDst
 left-same c s list a b d e wa wb ld le h k =
     let j = steps-isolated c s list a b d e (wa .long) (wb .long) h k (countOf list) in
+    let f = runAnswer s b e list in
     rw (answers-same s list a b d e wa wb ld le) (
-      picked (SameColumn c) (eqb (runAnswer s b e list .answer) 0) (finish s a d list .image) (finish s b e list .image) a b (j .0) h,
-      picked (SameCells c) (eqb (runAnswer s b e list .answer) 0) (finish s a d list .dst) (finish s b e list .dst) d e (j .1) k,
+      picked (SameOutcome c) (eqb (f .answer) 0) (whenDone s a d list) (whenDone s b e list) (whenRefused s f) (whenRefused s f)
+          (record {
+            answer = refl;
+            place = refl;
+            steps = refl;
+            cursor = cursor-same s list a b d e (countOf list);
+            ties =
+                counted-by (λ (x y z : ℕ). x ≡ y) (tiesAfter s list (countOf list) (begin s a d)) (tiesAfter s list (countOf list) (begin s b e)) (λ c. 0) c
+                (λ l. ties-isolated c s list a b d e (wa .long) (wb .long) h k l (countOf list)) refl;
+          })
+          (record { answer = refl; place = refl; steps = refl; cursor = refl; ties = refl }),
+      (
+        picked (SameColumn c) (eqb (f .answer) 0) (finish s a d list .image) (finish s b e list .image) a b (j .0) h,
+        picked (SameCells c) (eqb (f .answer) 0) (finish s a d list .dst) (finish s b e list .dst) d e (j .1) k,
+      ),
     )
 
 pub isolation : Isolated
 unfolding Isolated
 isolation c s list a b d e o p x y u v wa wb ld le h k r q =
     let j = left-same c s list a b d e wa wb ld le h k in (
-      r .outcome-is ∙ outcomes-same s list a b d e wa wb ld le ∙ sym (q .outcome-is),
+      through (SameOutcome c) o p (outcomeOf s a d list) (outcomeOf s b e list) (r .outcome-is) (q .outcome-is) (j .0),
       (
-        through (SameColumn c) x y (runImage s a d list) (runImage s b e list) (r .image-is) (q .image-is) (j .0),
-        through (SameCells c) u v (runDst s a d list) (runDst s b e list) (r .dst-is) (q .dst-is) (j .1),
+        through (SameColumn c) x y (runImage s a d list) (runImage s b e list) (r .image-is) (q .image-is) (j .1 .0),
+        through (SameCells c) u v (runDst s a d list) (runDst s b e list) (r .dst-is) (q .dst-is) (j .1 .1),
       ),
     )

@@ -3,6 +3,7 @@ pub mod WellFormed
 pub mod Kept
 pub mod Runs
 pub mod Cut
+pub mod Comparison
 pub mod Back
 pub mod Isolation
 pub mod Instance

@@ -1,32 +1,50 @@
 -- What every run does and leaves, and the steps through a list in two parts. Assumes nothing.
 use mathlib.Core.Path.{_≡_, refl, sym, ap, _∙_}
 use Prim.Native.Nat.{ℕ, zero, suc, _+_, _*_, _/_, _%_, _<_, _≤_}
-use native.Mathlib.Nat.{add-suc, add-zero}
+use native.Mathlib.Nat.{add-suc, add-zero, add-assoc, lt-of-not-le}
+use native.Mathlib.Decide.{decLe}
 use native.Mathlib.Omega.{arith}
 use mathlib.Core.Bool.{Bool, true, false}
 use mathlib.Core.List.{List, _++_}
-use lib.ListN.{length, getD, length-append, List·getD-append}
+use lib.ListN.{length, getD, length-append, List·getD-append, List·getD-eq-default}
 use lib.Seq.{getD-append-add}
 use lib.Dec.{eqb}
 use borrow.Author.Tests.{eq-eqb, ne-eqb, eqb-true}
 use Rattle.lane.specs.declared.Settings.{Settings}
 use Rattle.lane.specs.declared.Insn.{Insn}
-use Rattle.lane.specs.Words.{pick}
+use Rattle.lane.specs.Words.{pick, build}
 use Rattle.lane.specs.Load.{stride}
 use Rattle.lane.specs.Rule.{storesOf}
 use Rattle.lane.proofs.Cases.{pick-true, pick-false}
+use Rattle.lane.proofs.Stores.{length-build, getD-build}
 use Rattle.runner.specs.declared.Outcome.{Outcome}
 use Rattle.runner.specs.Image.{imageGood}
 use Rattle.runner.specs.Checks.{insnAt, countOf, runAnswer}
-use Rattle.runner.specs.Run.{Machine, laneAfter, imageAt, imageAfter, dstAfter, stepped, steps, finish, outcomeOf, runImage, runDst}
-use Rattle.runner.proofs.Steps.{begin}
+use Rattle.runner.specs.Run.{Machine, laneAfter, imageAt, imageAfter, dstAfter, stepped, steps, begin, finish, tieIn, overColumn, tiesAfter, tiesOf, whenDone, whenRefused, outcomeOf, runImage, runDst}
+use Rattle.runner.proofs.Counts.{few-ties}
 use Rattle.claims.specs.Claims.{withCursor}
 use Rattle.claims.proofs.Kept.{good-steps, length-steps}
+
+-- ---- counts
+
+-- a count that is looked up: one of the eight, or 0
+pub counted-by : (P : ℕ → ℕ → ℕ → Type 0) (f g h : ℕ → ℕ) (c : ℕ) → (c < 8 → P (f c) (g c) (h c)) → P 0 0 0
+    → P (getD (build 8 f) c 0) (getD (build 8 g) c 0) (getD (build 8 h) c 0)
+counted-by P f g h c k z =
+    elim (decLe 8 c) [ yes l ↦ rw (past f l, past g l, past h l) z | no l ↦ rw (at f l, at g l, at h l) (k (lt-of-not-le l)) ]
+  where
+    past : (f : ℕ → ℕ) → 8 ≤ c → getD (build 8 f) c 0 ≡ 0
+    past f l = List·getD-eq-default (build 8 f) 0 (omega (arith, length-build 8 f))
+
+    at : (f : ℕ → ℕ) → (8 ≤ c → ⊥) → getD (build 8 f) c 0 ≡ f c
+    at f l = getD-build 8 f c (lt-of-not-le l)
+
+-- ---- every run
 
 module _ (s : Settings) (image dst list : List ℕ) where
   -- refused
   pub refused : (runAnswer s image dst list .answer ≡ 0 → ⊥)
-      → (outcomeOf s image dst list ≡ record { answer = runAnswer s image dst list .answer; steps = 0; place = runAnswer s image dst list .place; cursor = s .cursor })
+      → (outcomeOf s image dst list ≡ whenRefused s (runAnswer s image dst list))
       × ((runImage s image dst list ≡ image) × (runDst s image dst list ≡ dst))
   unfolding outcomeOf runImage runDst
   refused h = (
@@ -39,7 +57,7 @@ module _ (s : Settings) (image dst list : List ℕ) where
 
   -- done
   pub done : runAnswer s image dst list .answer ≡ 0
-      → (outcomeOf s image dst list ≡ record { answer = 0; steps = countOf list; place = 0; cursor = finish s image dst list .cursor })
+      → (outcomeOf s image dst list ≡ whenDone s image dst list)
       × ((runImage s image dst list ≡ finish s image dst list .image) × (runDst s image dst list ≡ finish s image dst list .dst))
   unfolding outcomeOf runImage runDst
   done h = (
@@ -56,10 +74,23 @@ module _ (s : Settings) (image dst list : List ℕ) where
   answered = go (eqb (runAnswer s image dst list .answer) 0) refl
     where
       go : (t : Bool) → eqb (runAnswer s image dst list .answer) 0 ≡ t
-          → pick {X = Outcome} t (record { answer = 0; steps = countOf list; place = 0; cursor = finish s image dst list .cursor })
-          (record { answer = runAnswer s image dst list .answer; steps = 0; place = runAnswer s image dst list .place; cursor = s .cursor }) .answer ≡ runAnswer s image dst list .answer
+          → pick {X = Outcome} t (whenDone s image dst list) (whenRefused s (runAnswer s image dst list)) .answer ≡ runAnswer s image dst list .answer
       go true e = sym (eqb-true (runAnswer s image dst list .answer) 0 e)
       go false e = refl
+
+  -- and a column's ties are few
+  pub few-counted : (c : ℕ) → getD (outcomeOf s image dst list .ties) c 0 ≤ 4 * outcomeOf s image dst list .steps
+  unfolding outcomeOf pick
+  few-counted c = go (eqb (runAnswer s image dst list .answer) 0)
+    where
+      under : (f : ℕ → ℕ) (n : ℕ) → ((c : ℕ) → f c ≤ n) → getD (build 8 f) c 0 ≤ n
+      under f n h = counted-by (λ (x y z : ℕ). x ≤ n) f f f c (λ l. h c) (omega arith)
+
+      go : (t : Bool)
+          → getD (pick {X = Outcome} t (whenDone s image dst list) (whenRefused s (runAnswer s image dst list)) .ties) c 0
+          ≤ 4 * pick {X = Outcome} t (whenDone s image dst list) (whenRefused s (runAnswer s image dst list)) .steps
+      go true = under (tiesAfter s list (countOf list) (begin s image dst)) (4 * countOf list) (few-ties s list (countOf list) (begin s image dst))
+      go false = under (λ c. 0) 0 (λ c. omega arith)
 
   -- well formed afterwards
   pub stays-good : imageGood image ≡ true → imageGood (runImage s image dst list) ≡ true
@@ -137,6 +168,38 @@ steps-second s a b (suc n) m h =
     ∙ ap (λ (x : Machine). stepped s (insnAt (a ++ b) (length a / 6 + n)) x) (steps-second s a b n m h)
     ∙ ap (λ (x : Insn). stepped s x (steps s b n (steps s a (length a / 6) m))) (insn-second a b n h)
 
+-- the ties add up
+ties-cursor : (k : ℕ) (s : Settings) (list : List ℕ) (n : ℕ) (m : Machine) (c : ℕ) → tiesAfter (withCursor k s) list n m c ≡ tiesAfter s list n m c
+unfolding tiesAfter
+ties-cursor k s list zero m c = refl
+ties-cursor k s list (suc n) m c =
+    ap (λ (x : ℕ). x + overColumn (tieIn (insnAt list n) (steps (withCursor k s) list n m .image)) c) (ties-cursor k s list n m c)
+    ∙ ap (λ (x : Machine). tiesAfter s list n m c + overColumn (tieIn (insnAt list n) (x .image)) c) (steps-cursor k s list n m)
+
+ties-first : (s : Settings) (a b : List ℕ) (n : ℕ) (m : Machine) (c : ℕ) → 6 * n ≤ length a → tiesAfter s (a ++ b) n m c ≡ tiesAfter s a n m c
+unfolding tiesAfter
+ties-first s a b zero m c h = refl
+ties-first s a b (suc n) m c h =
+    ap (λ (x : ℕ). x + overColumn (tieIn (insnAt (a ++ b) n) (steps s (a ++ b) n m .image)) c) (ties-first s a b n m c (omega arith))
+    ∙ ap (λ (x : Machine). tiesAfter s a n m c + overColumn (tieIn (insnAt (a ++ b) n) (x .image)) c) (steps-first s a b n m (omega arith))
+    ∙ ap (λ (x : Insn). tiesAfter s a n m c + overColumn (tieIn x (steps s a n m .image)) c) (insn-first a b n (omega arith))
+
+ties-second : (s : Settings) (a b : List ℕ) (n : ℕ) (m : Machine) (c : ℕ) → length a % 6 ≡ 0
+    → tiesAfter s (a ++ b) (length a / 6 + n) m c ≡ tiesAfter s a (length a / 6) m c + tiesAfter s b n (steps s a (length a / 6) m) c
+unfolding tiesAfter
+ties-second s a b zero m c h =
+    ap (λ (k : ℕ). tiesAfter s (a ++ b) k m c) (add-zero (length a / 6)) ∙ ties-first s a b (length a / 6) m c (omega arith)
+    ∙ sym (add-zero (tiesAfter s a (length a / 6) m c))
+ties-second s a b (suc n) m c h =
+    ap (λ (k : ℕ). tiesAfter s (a ++ b) k m c) (add-suc (length a / 6) n)
+    ∙ ap (λ (x : ℕ). x + overColumn (tieIn (insnAt (a ++ b) (length a / 6 + n)) (steps s (a ++ b) (length a / 6 + n) m .image)) c) (ties-second s a b n m c h)
+    ∙ cc (insn-second a b n h, steps-second s a b n m h)
+    ∙ add-assoc (tiesAfter s a (length a / 6) m c) (tiesAfter s b n (steps s a (length a / 6) m) c)
+    (overColumn (tieIn (insnAt b n) (steps s b n (steps s a (length a / 6) m) .image)) c)
+
+joined : (a b : List ℕ) → length a % 6 ≡ 0 → length (a ++ b) / 6 ≡ length a / 6 + length b / 6
+joined a b h = rw length-append (omega arith)
+
 -- the machine that a list leads to is the one that its first part leads to, taken on by the rest from the image, the Dst and the cursor reached
 pub cut : (s : Settings) (a b image dst : List ℕ) → length a % 6 ≡ 0
     → finish s image dst (a ++ b) ≡ finish (withCursor (finish s image dst a .cursor) s) (finish s image dst a .image) (finish s image dst a .dst) b
@@ -145,6 +208,17 @@ cut s a b image dst h =
     ap (λ (k : ℕ). steps s (a ++ b) k (begin s image dst)) (joined a b h)
     ∙ steps-second s a b (countOf b) (begin s image dst) h
     ∙ sym (steps-cursor (finish s image dst a .cursor) s b (countOf b) (finish s image dst a))
-  where
-    joined : (a b : List ℕ) → length a % 6 ≡ 0 → length (a ++ b) / 6 ≡ length a / 6 + length b / 6
-    joined a b h = rw length-append (omega arith)
+
+pub cut-ties : (s : Settings) (a b image dst : List ℕ) (c : ℕ) → length a % 6 ≡ 0
+    → getD (tiesOf s image dst (a ++ b)) c 0
+    ≡ getD (tiesOf s image dst a) c 0
+    + getD (tiesOf (withCursor (finish s image dst a .cursor) s) (finish s image dst a .image) (finish s image dst a .dst) b) c 0
+unfolding withCursor
+cut-ties s a b image dst c h =
+    counted-by (λ (x y z : ℕ). x ≡ y + z) (tiesAfter s (a ++ b) (countOf (a ++ b)) (begin s image dst)) _ _ c
+    (λ l.
+    ap (λ (k : ℕ). tiesAfter s (a ++ b) k (begin s image dst) c) (joined a b h)
+    ∙ ties-second s a b (countOf b) (begin s image dst) c h
+    ∙ ap (λ (x : ℕ). tiesAfter s a (countOf a) (begin s image dst) c + x)
+    (sym (ties-cursor (finish s image dst a .cursor) s b (countOf b) (finish s image dst a) c)))
+    refl

@@ -3,22 +3,25 @@
 -- one lane's instruction (crate lane, specs/Refusals).
 use Prim.Native.Nat.{ℕ, zero, suc, _+_, _-_, _*_, _/_, _%_, _^_, _<_, _≤_}
 use mathlib.Core.Path.{_≡_}
-use mathlib.Core.Bool.{Bool, true, false}
+use mathlib.Core.Bool.{Bool, true, false, not}
 use mathlib.Core.List.{List, [], _∷_, _++_}
 use mathlib.Core.Logic.{_⊎_}
 use lib.ListN.{length, getD}
 use lib.Dec.{eqb, T}
 use Rattle.lane.specs.declared.Settings.{Settings}
 use Rattle.lane.specs.declared.Insn.{Insn}
+use Rattle.lane.specs.declared.Order.{Order}
+use Rattle.lane.specs.declared.Order.the-variants.{Below, Equal, Above}
 use Rattle.lane.specs.declared.Stepped.{Stepped}
 use Rattle.lane.specs.Words.{pick, bit, laneConfig, reg, enabled}
 use Rattle.lane.specs.Load.{address, placeOf, bf16}
 use Rattle.lane.specs.Store.{packedBf16, cells}
+use Rattle.lane.specs.Swap.{rank, ranksBelow, compared, outOfOrder}
 use Rattle.lane.specs.Refusals.{laneStep}
 use Rattle.runner.specs.declared.Outcome.{Outcome}
 use Rattle.runner.specs.Image.{laneIn, imageGood}
 use Rattle.runner.specs.Checks.{insnAt, countOf, runAnswer, listAnswer}
-use Rattle.runner.specs.Run.{Machine, steps, finish, Ran}
+use Rattle.runner.specs.Run.{Machine, steps, finish, tiesOf, noTies, Ran}
 use Rattle.listing.specs.declared.Reading.{Reading}
 use Rattle.listing.specs.declared.Writing.{Writing}
 use Rattle.listing.specs.declared.Reporting.{Reporting}
@@ -43,8 +46,16 @@ SameColumn c a b = (L s : ℕ) → L < 32 → L % 8 ≡ c → s < 24 → laneIn 
 unfoldable pub SameCells : ℕ → List ℕ → List ℕ → Type 0
 SameCells c d e = (p : ℕ) → p < 16384 → p % 16 / 2 ≡ c → getD d p 0 ≡ getD e p 0
 
+-- Two outcomes agree for column c: in answer, place, steps and cursor, and in that column's own count of ties. The other counts are not spoken of.
+pub record SameOutcome (c : ℕ) (o p : Outcome) : Type 0 where
+  pub answer : o .answer ≡ p .answer
+  pub place : o .place ≡ p .place
+  pub steps : o .steps ≡ p .steps
+  pub cursor : o .cursor ≡ p .cursor
+  pub ties : getD (o .ties) c 0 ≡ getD (p .ties) c 0
+
 -- Demand 3: two runs with one list and the same settings that agree in a column's four lanes and its two Dst columns give that column the same
--- words and, in its two Dst columns, the same cells, and the same answer, place, steps and cursor, whatever the other seven hold.
+-- words and, in its two Dst columns, the same cells, and the same answer, place, steps, cursor and count of its own ties, whatever the other seven hold.
 unfoldable pub Isolated : Type 0
 Isolated =
     (c : ℕ) (s : Settings) (list a b d e : List ℕ) (o p : Outcome) (x y u v : List ℕ)
@@ -56,10 +67,10 @@ Isolated =
     → SameCells c d e
     → Ran s a d list o x u
     → Ran s b e list p y v
-    → (o ≡ p) × (SameColumn c x y × SameCells c u v)
+    → SameOutcome c o p × (SameColumn c x y × SameCells c u v)
 
 -- There are two runs that it speaks of: their images differ outside column 0, and so do their Dsts; the list is accepted, and it changes column 0, its
--- words and its cells.
+-- words and its cells; column 0 meets ties, and another column's counts differ.
 pub record TwoRuns : Type 0 where
   pub settings : Settings
   pub list : List ℕ
@@ -68,8 +79,11 @@ pub record TwoRuns : Type 0 where
   pub dst : List ℕ
   pub other-dst : List ℕ
   pub outcome : Outcome
+  pub other-outcome : Outcome
   pub after : List ℕ
+  pub other-after : List ℕ
   pub stored : List ℕ
+  pub other-stored : List ℕ
   pub formed : WellFormedImage image
   pub other-formed : WellFormedImage other-image
   pub dst-long : length dst ≡ 16384
@@ -79,9 +93,12 @@ pub record TwoRuns : Type 0 where
   pub images-differ : SameColumn 1 image other-image → ⊥
   pub dsts-differ : SameCells 1 dst other-dst → ⊥
   pub ran : Ran settings image dst list outcome after stored
+  pub other-ran : Ran settings other-image other-dst list other-outcome other-after other-stored
   pub accepted : outcome .answer ≡ 0
   pub changed : SameColumn 0 image after → ⊥
   pub cells-changed : SameCells 0 dst stored → ⊥
+  pub tied : getD (outcome .ties) 0 0 ≡ 4
+  pub counts-differ : getD (outcome .ties) 1 0 ≡ getD (other-outcome .ties) 1 0 → ⊥
 
 -- Two lanes never meet in a cell of Dst, and a lane's cells lie in the two Dst columns of its own column, whatever the address.
 unfoldable pub CellsApart : Type 0
@@ -93,7 +110,7 @@ CellsApart =
 
 -- ---- runs
 
--- A refusal returns its number and place, steps 0 and the given cursor, and touches no word of the image and no cell of Dst.
+-- A refusal returns its number and place, steps 0, the given cursor and no ties, and touches no word of the image and no cell of Dst.
 unfoldable pub RefusalTouchesNothing : Type 0
 RefusalTouchesNothing =
     (s : Settings) (image dst list : List ℕ) (o : Outcome) (after stored : List ℕ)
@@ -101,7 +118,8 @@ RefusalTouchesNothing =
     → (o .answer ≡ 0 → ⊥)
     → (after ≡ image)
     × ((stored ≡ dst)
-    × ((o .answer ≡ runAnswer s image dst list .answer) × ((o .place ≡ runAnswer s image dst list .place) × ((o .steps ≡ 0) × (o .cursor ≡ s .cursor)))))
+    × ((o .answer ≡ runAnswer s image dst list .answer)
+    × ((o .place ≡ runAnswer s image dst list .place) × ((o .steps ≡ 0) × ((o .cursor ≡ s .cursor) × (o .ties ≡ noTies))))))
 
 -- An instruction that the lane rules refuse leaves the lane's words and its two cells as given.
 unfoldable pub RefusedLaneTouchesNothing : Type 0
@@ -110,7 +128,8 @@ RefusedLaneTouchesNothing =
     → (laneStep s L i own head even odd .answer ≡ 0 → ⊥)
     → (laneStep s L i own head even odd .words ≡ own) × (laneStep s L i own head even odd .cells ≡ cells even odd)
 
--- A run that is done has gone through the whole list: its steps are the list's instructions, its image, Dst and cursor the ones that they lead to.
+-- A run that is done has gone through the whole list: its steps are the list's instructions, its image, Dst and cursor the ones that they lead to, and its
+-- ties those that they met.
 unfoldable pub GoesThroughTheList : Type 0
 GoesThroughTheList =
     (s : Settings) (image dst list : List ℕ) (o : Outcome) (after stored : List ℕ)
@@ -118,7 +137,8 @@ GoesThroughTheList =
     → o .answer ≡ 0
     → (o .steps ≡ countOf list)
     × ((o .place ≡ 0)
-    × ((o .cursor ≡ finish s image dst list .cursor) × ((after ≡ finish s image dst list .image) × (stored ≡ finish s image dst list .dst))))
+    × ((o .cursor ≡ finish s image dst list .cursor)
+    × ((after ≡ finish s image dst list .image) × ((stored ≡ finish s image dst list .dst) × (o .ties ≡ tiesOf s image dst list)))))
 
 -- A well formed image is well formed after every run.
 unfoldable pub WellFormedStays : Type 0
@@ -142,8 +162,19 @@ withCursor k s =
       stride3 = s .stride3;
     }
 
+-- Two parts of a run, with outcomes p and q, come to the whole, with outcome o: both are done, the second ends where the whole does, and steps and each
+-- column's ties add up.
+pub record PartsOf (o p q : Outcome) (after stored end ended : List ℕ) : Type 0 where
+  pub first-done : p .answer ≡ 0
+  pub second-done : q .answer ≡ 0
+  pub image : end ≡ after
+  pub dst : ended ≡ stored
+  pub cursor : q .cursor ≡ o .cursor
+  pub steps : o .steps ≡ p .steps + q .steps
+  pub ties : (c : ℕ) → getD (o .ties) c 0 ≡ getD (p .ties) c 0 + getD (q .ties) c 0
+
 -- A run can be cut anywhere: where a list of two parts is done, so is its first part, and so is the second from the image, the Dst and the cursor that the
--- first leaves; it ends in the same image and Dst with the same cursor, and the steps add up.
+-- first leaves; it ends in the same image and Dst with the same cursor, and the steps add up, and each column's ties.
 unfoldable pub CanBeCut : Type 0
 CanBeCut =
     (s : Settings) (image dst a b : List ℕ) (o p q : Outcome) (after stored middle between end ended : List ℕ)
@@ -152,8 +183,43 @@ CanBeCut =
     → o .answer ≡ 0
     → Ran s image dst a p middle between
     → Ran (withCursor (p .cursor) s) middle between b q end ended
-    → (p .answer ≡ 0)
-    × ((q .answer ≡ 0) × ((end ≡ after) × ((ended ≡ stored) × ((q .cursor ≡ o .cursor) × (o .steps ≡ p .steps + q .steps)))))
+    → PartsOf o p q after stored end ended
+
+-- ---- SWAP's comparison, and ties
+
+-- What each answer says of c and d: c ranks below d; the ranks are equal; neither.
+unfoldable pub Says : Order → ℕ → ℕ → Type 0
+Says Below c d = ranksBelow c d ≡ true
+Says Equal c d = rank c ≡ rank d
+Says Above c d = (ranksBelow c d ≡ true → ⊥) × (rank c ≡ rank d → ⊥)
+
+-- Exactly one of the three holds, and it is the comparison's answer.
+unfoldable pub OneAnswerHolds : Type 0
+OneAnswerHolds = (c d : ℕ) → Says (compared c d) c d × ((o : Order) → Says o c d → o ≡ compared c d)
+
+-- Swapping the operands swaps below and above.
+abbrev pub mirrored : Order → Order
+mirrored Below = Above
+mirrored Equal = Equal
+mirrored Above = Below
+
+unfoldable pub OperandsMirror : Type 0
+OperandsMirror = (c d : ℕ) → compared d c ≡ mirrored (compared c d)
+
+-- The answer for two words is equal exactly if they are.
+unfoldable pub EqualIfTheWordsAre : Type 0
+EqualIfTheWordsAre = (c d : ℕ) → c < 2 ^ 32 → d < 2 ^ 32 → (compared c d ≡ Equal → c ≡ d) × (c ≡ d → compared c d ≡ Equal)
+
+-- SWAP's decision, taken from that answer, is document 01's: "Wanting the minimum, swap if vc ranks below vd; else swap if vc does not rank below vd."
+unfoldable pub DecisionStays : Type 0
+DecisionStays = (minimum : Bool) (c d : ℕ) → outOfOrder minimum c d ≡ pick minimum (ranksBelow c d) (not (ranksBelow c d))
+
+-- A column's ties are at most 4 for each instruction done.
+unfoldable pub AtMostFourTies : Type 0
+AtMostFourTies =
+    (s : Settings) (image dst list : List ℕ) (o : Outcome) (after stored : List ℕ) (c : ℕ)
+    → Ran s image dst list o after stored
+    → getD (o .ties) c 0 ≤ 4 * o .steps
 
 -- ---- STORE
 

@@ -1,8 +1,9 @@
--- The length that a reading or a writing returns is small. Assumes nothing.
-use Prim.Native.Nat.{ℕ, _≤_}
-use mathlib.Core.Path.{_≡_, refl}
+-- The length that a reading or a writing returns is small, and a run's outcome is twelve words. Assumes nothing.
+use Prim.Native.Nat.{ℕ, suc, _≤_}
+use mathlib.Core.Path.{_≡_, refl, ap}
 use mathlib.Core.Bool.{Bool, true, false}
 use mathlib.Core.List.{List}
+use lib.ListN.{length}
 use borrow.Author.Tests.{eqb-true}
 use native.Mathlib.Omega.{arith}
 use Rattle.lane.specs.declared.Settings.{Settings}
@@ -11,8 +12,11 @@ use Rattle.listing.specs.declared.Reading.{Reading}
 use Rattle.listing.specs.declared.Writing.{Writing}
 use Rattle.listing.specs.Forms.{Scan, taken, faulty, scan}
 use Rattle.listing.specs.Listing.{header, lines, settingsOf, countIn, Read, Write, refusedReading, acceptedReading, readList, readRest, readHeader, readText, refusedWriting, acceptedWriting, writeList}
+use Rattle.runner.specs.Run.{outcomeOf}
 use Rattle.runner.proofs.Accepted.{listed}
+use Rattle.runner.proofs.Steps.{eight-ties}
 use Rattle.listing.proofs.Writers.{few-words, listing-short}
+use Rattle.host.specs.Words.{outcomeWords}
 
 read-either : (b : Bool) (x y : Read) (n : ℕ) → (b ≡ true → x .reading .length ≤ n) → y .reading .length ≤ n → pick b x y .reading .length ≤ n
 unfolding pick
@@ -56,3 +60,7 @@ write-short room s list =
 
 pub write-fits : (room : ℕ) (s : Settings) (list : List ℕ) (r : Writing) → r ≡ writeList room s list .writing → r .length ≤ 65536
 write-fits room s list r e = rw e (write-short room s list)
+
+pub twelve-words : (s : Settings) (image dst list : List ℕ) → length (outcomeWords (outcomeOf s image dst list)) ≡ 12
+unfolding outcomeWords
+twelve-words s image dst list = ap (λ (n : ℕ). suc (suc (suc (suc n)))) (eight-ties s image dst list)

@@ -1,14 +1,17 @@
 -- What the layers below told, of the records made from a host's words. Assumes nothing.
 use Prim.Native.Nat.{ℕ}
-use mathlib.Core.Path.{_≡_, ap}
-use mathlib.Core.List.{List}
-use lib.ListN.{length}
+use mathlib.Core.Path.{_≡_, ap, _∙_}
+use mathlib.Core.List.{List, [], _∷_}
+use lib.ListN.{length, getD}
 use Rattle.lane.specs.declared.Settings.{Settings}
 use Rattle.lane.specs.declared.Insn.{Insn}
 use Rattle.lane.specs.declared.Stepped.{Stepped}
+use Rattle.lane.specs.Words.{build}
 use Rattle.lane.specs.Refusals.{laneStep}
+use Rattle.lane.proofs.Stores.{build-own}
 use Rattle.runner.specs.declared.Outcome.{Outcome}
 use Rattle.runner.specs.Run.{outcomeOf, runImage, runDst, Ran}
+use Rattle.runner.proofs.Steps.{eight-ties}
 use Rattle.listing.specs.declared.Reading.{Reading}
 use Rattle.listing.specs.declared.Writing.{Writing}
 use Rattle.listing.specs.declared.Reporting.{Reporting}
@@ -16,15 +19,33 @@ use Rattle.listing.specs.Listing.{readText, writeList, inFront}
 use Rattle.listing.specs.Report.{Printed, reported, reporting, Reports}
 use Rattle.host.specs.Words.{outcomeWords, cellsWords, settingsWords, readingWords, writingWords}
 
+-- an outcome's words one by one, as they are laid out
+abbrev pub oneByOne : Outcome → List ℕ
+oneByOne o =
+    o .answer
+    ∷ (o .steps
+    ∷ (o .place
+    ∷ (o .cursor
+    ∷ (getD (o .ties) 0 0
+    ∷ (getD (o .ties) 1 0
+    ∷ (getD (o .ties) 2 0
+    ∷ (getD (o .ties) 3 0 ∷ (getD (o .ties) 4 0 ∷ (getD (o .ties) 5 0 ∷ (getD (o .ties) 6 0 ∷ (getD (o .ties) 7 0 ∷ [])))))))))))
+
+laid-out : (o : Outcome) → length (o .ties) ≡ 8 → oneByOne o ≡ outcomeWords o
+unfolding outcomeWords build
+laid-out o e = ap (λ (ws : List ℕ). o .answer ∷ (o .steps ∷ (o .place ∷ (o .cursor ∷ ws)))) (build-own 8 (o .ties) e)
+
 pub told-run :
     (s t : Settings) (image dst list left stored : List ℕ) (o : Outcome)
     → s ≡ t
     → Ran s image dst list o left stored
     → (o .answer ≡ outcomeOf t image dst list .answer)
-    × ((outcomeWords o ≡ outcomeWords (outcomeOf t image dst list))
+    × ((oneByOne o ≡ outcomeWords (outcomeOf t image dst list))
     × ((left ≡ runImage t image dst list) × (stored ≡ runDst t image dst list)))
 told-run s t image dst list left stored o e h =
-    rw (← e) (ap (λ (x : Outcome). x .answer) (h .outcome-is), (ap outcomeWords (h .outcome-is), (h .image-is, h .dst-is)))
+    let eight = ap (λ (x : Outcome). length (x .ties)) (h .outcome-is) ∙ eight-ties s image dst list in
+    rw (← e)
+    (ap (λ (x : Outcome). x .answer) (h .outcome-is), (laid-out o eight ∙ ap outcomeWords (h .outcome-is), (h .image-is, h .dst-is)))
 
 pub told-lane :
     (s t : Settings) (L : ℕ) (i j : Insn) (own head : List ℕ) (even odd : ℕ) (o : Stepped)

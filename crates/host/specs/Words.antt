@@ -21,9 +21,9 @@ insnOf ws =
       md = getD ws 5 0;
     }
 
--- An outcome is four words: answer, steps, place, cursor.
+-- An outcome is twelve words: answer, steps, place, cursor, and the ties of columns 0 to 7.
 unfoldable pub outcomeWords : Outcome → List ℕ
-outcomeWords o = o .answer ∷ (o .steps ∷ (o .place ∷ (o .cursor ∷ [])))
+outcomeWords o = o .answer ∷ (o .steps ∷ (o .place ∷ (o .cursor ∷ o .ties)))
 
 -- A lane's two cells: even, odd.
 unfoldable pub cellsWords : Cells → List ℕ
@@ -42,4 +42,4 @@ writingWords r = r .answer ∷ (r .steps ∷ (r .place ∷ (r .cursor ∷ (r .le
 
 -- What the library replays: 1000 is document 01 by itself, and 1000 plus n is with the requests of document 02 up to M-n.
 abbrev pub version : ℕ
-version = 1101
+version = 1102

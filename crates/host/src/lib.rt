@@ -22,7 +22,7 @@ ghost use Rattle.listing.specs.Report.{reported, reporting};
 ghost use Rattle.host.specs.Words.{settingsWords, insnOf, outcomeWords, cellsWords, readingWords, writingWords, version};
 
 // What the library replays, as specs/ counts it.
-const VERSION: u32 = 1101;
+const VERSION: u32 = 1102;
 
 // An instruction, from six words in the list's order.
 fn insn_of(words: &[u32; 6]) -> Insn
@@ -38,14 +38,15 @@ fn insn_of(words: &[u32; 6]) -> Insn
     }
 }
 
-// A run of a list over an image and a Dst: a refusal leaves both as they were. The answer is returned, and stands first in `outcome`.
+// A run of a list over an image and a Dst: a refusal leaves both as they were. The answer is returned, and stands first in `outcome`; the ties of the
+// columns stand last.
 #[no_mangle]
 pub extern "C" fn replay_run(
     settings: &[u32; 8],
     image: &mut [u32],
     dst: &mut [u16],
     list: &[u32],
-    outcome: &mut [u32; 4],
+    outcome: &mut [u32; 12],
 ) -> u32
     ensures { λ r. ⌜ r ≡ outcomeOf (settingsOf (now (settings .entry))) (now (image .entry)) (now (dst .entry)) (now (list .entry)) .answer ⌝ }
     ensures { λ _. ⌜ now (outcome .exit) ≡ outcomeWords (outcomeOf (settingsOf (now (settings .entry))) (now (image .entry)) (now (dst .entry)) (now (list .entry))) ⌝ }
@@ -53,7 +54,21 @@ pub extern "C" fn replay_run(
     ensures { λ _. ⌜ now (dst .exit) ≡ runDst (settingsOf (now (settings .entry))) (now (image .entry)) (now (dst .entry)) (now (list .entry)) ⌝ }
 {
     let o = run(settings_of(settings), image, dst, list);
-    *outcome = [o.answer, o.steps, o.place, o.cursor];
+    let ties = o.ties;
+    *outcome = [
+        o.answer,
+        o.steps,
+        o.place,
+        o.cursor,
+        ties[0],
+        ties[1],
+        ties[2],
+        ties[3],
+        ties[4],
+        ties[5],
+        ties[6],
+        ties[7],
+    ];
     o.answer
 }
 

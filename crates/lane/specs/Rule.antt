@@ -1,6 +1,6 @@
--- One instruction in one lane: the operations by their numbers, the lane afterwards, and its two cells.
+-- One instruction in one lane: the operations by their numbers, the lane afterwards, its two cells, and whether it met an equal pair.
 use Prim.Native.Nat.{ℕ}
-use mathlib.Core.Bool.{Bool, _||_}
+use mathlib.Core.Bool.{Bool, _&&_, _||_}
 use mathlib.Core.List.{[]}
 use lib.Dec.{eqb}
 use Rattle.lane.specs.declared.Settings.{Settings}
@@ -9,7 +9,7 @@ use Rattle.lane.specs.declared.Cells.{Cells}
 use Rattle.lane.specs.Words.{pick, bit, Lane, Stores, laneConfig}
 use Rattle.lane.specs.Load.{load, loadi}
 use Rattle.lane.specs.Store.{cells, store}
-use Rattle.lane.specs.Swap.{swap}
+use Rattle.lane.specs.Swap.{swap, tied}
 use Rattle.lane.specs.Lut.{lut}
 use Rattle.lane.specs.Config.{config}
 use Rattle.lane.specs.Compute.{valued, iadd, lz, exexp}
@@ -36,3 +36,7 @@ storesOf op s a i L head even odd own =
 -- Its two cells afterwards: STORE alone changes one of them, and reads the same bit of row 0's lane.
 unfoldable pub cellsOf : ℕ → ℕ → Insn → ℕ → Bool → ℕ → ℕ → Lane → Cells
 cellsOf op a i L exchanged even odd own = pick (eqb op 16) (store a i L exchanged even odd own) (cells even odd)
+
+-- Whether it met an equal pair: SWAP alone compares, and it compares the lane's own words, as they are before the instruction.
+unfoldable pub isTied : ℕ → Insn → ℕ → Lane → Bool
+isTied op i L own = eqb op 4 && tied i L own

@@ -1,12 +1,14 @@
--- Document 01, "What each operation does": SWAP.
+-- Document 01, "What each operation does": SWAP; and document 02, M-102: its comparison with three answers, and its ties.
 use Prim.Native.Nat.{ℕ, _+_, _%_, _^_}
-use mathlib.Core.Bool.{Bool, not, _&&_, _||_}
+use mathlib.Core.Bool.{Bool, true, false, not, _&&_, _||_}
 use mathlib.Core.List.{List, [], _∷_, _++_}
 use lib.ListN.{getD}
 use lib.IntN.{ℤ, pos, negsuc}
 use lib.Signed.{ltZ}
 use lib.Dec.{ltb, eqb}
 use Rattle.lane.specs.declared.Insn.{Insn}
+use Rattle.lane.specs.declared.Order.{Order}
+use Rattle.lane.specs.declared.Order.the-variants.{Below, Equal, Above}
 use Rattle.lane.specs.Words.{pick, bit, magnitude, Lane, Stores, laneConfig, laneFlag, useFlag, enabledBy, reg}
 
 -- "An enabled lane acts if vd is below 12 or bit 4 is set." LUT has the same condition.
@@ -23,6 +25,31 @@ rank w = pick (ltb w (2 ^ 31)) (pos w) (negsuc (magnitude w))
 unfoldable pub ranksBelow : ℕ → ℕ → Bool
 ranksBelow c d = ltZ (rank c) (rank d)
 
+-- Two whole numbers are equal; the library has their order, `ltZ`.
+abbrev pub eqZ : ℤ → ℤ → Bool
+eqZ (pos a) (pos b) = eqb a b
+eqZ (pos a) (negsuc b) = false
+eqZ (negsuc a) (pos b) = false
+eqZ (negsuc a) (negsuc b) = eqb a b
+
+unfoldable pub ranksEqual : ℕ → ℕ → Bool
+ranksEqual c d = eqZ (rank c) (rank d)
+
+-- Document 02, M-102: "The comparison under SWAP now answers below, equal or above": c ranks below d; the ranks are equal; neither.
+unfoldable pub compared : ℕ → ℕ → Order
+compared c d = pick (ranksBelow c d) Below (pick (ranksEqual c d) Equal Above)
+
+-- The answer is below, by which SWAP decides; it is equal, which is a tie.
+abbrev pub isBelow : Order → Bool
+isBelow Below = true
+isBelow Equal = false
+isBelow Above = false
+
+abbrev pub isEqual : Order → Bool
+isEqual Below = false
+isEqual Equal = true
+isEqual Above = false
+
 -- "Otherwise vd wants the minimum in lanes of these masks, lane 0 lowest bit: 1 FFFFFFFF, 2 0000FFFF, .. 9 to 15 none."
 abbrev pub masks : List ℕ
 masks =
@@ -35,9 +62,9 @@ maskOf m = getD masks m 0
 abbrev pub inMask : ℕ → ℕ → Bool
 inMask mask L = bit mask (L % 32)
 
--- "Wanting the minimum, swap if vc ranks below vd; else swap if vc does not rank below vd."
+-- "Wanting the minimum, swap if vc ranks below vd; else swap if vc does not rank below vd": by the comparison's answer.
 abbrev pub outOfOrder : Bool → ℕ → ℕ → Bool
-outOfOrder minimum c d = pick minimum (ranksBelow c d) (not (ranksBelow c d))
+outOfOrder minimum c d = pick minimum (isBelow (compared c d)) (not (isBelow (compared c d)))
 
 -- "Mod 0 always swaps. .. Bit 8 reverses that decision, never mod 0's."
 unfoldable pub swaps : Bool → Bool → Bool → ℕ → ℕ → Bool
@@ -71,3 +98,11 @@ swapWith minimum i c d own =
 -- SWAP in lane L.
 unfoldable pub swap : Insn → ℕ → Lane → Stores
 swap i L own = swapWith (inMask (maskOf (i .md)) L) i (reg L own (i .vc)) (reg L own (i .vd)) own
+
+-- Document 02, M-102: "enabled acting lanes met an equal pair in a SWAP with mod other than 0": one lane, where vc and vd hold c and d.
+unfoldable pub tiedWith : Insn → ℕ → ℕ → Lane → Bool
+tiedWith i c d own = not (eqb (i .md) 0) && (acts (i .vd) own && isEqual (compared c d))
+
+-- The same for lane L. vc and vd the same register are an equal pair.
+unfoldable pub tied : Insn → ℕ → Lane → Bool
+tied i L own = tiedWith i (reg L own (i .vc)) (reg L own (i .vd)) own

@@ -1,4 +1,4 @@
-// The rules of one lane: the fifteen operations of document 01, both editions, on words, and document 02's STORE.
+// The rules of one lane: the fifteen operations of document 01, both editions, on words, and document 02's STORE and comparison.
 //
 // Public is what another crate calls. All of it is total: it has a promise and no `requires`. The promises cite specs/, which renders document 01.
 
@@ -8,7 +8,7 @@ pub mod words;
 pub mod load;
 // STORE's cell.
 pub mod store;
-// SWAP's order and decision.
+// SWAP's comparison and decision.
 pub mod swap;
 // LUT's input, coefficients, sum and word.
 pub mod lut;
@@ -65,6 +65,13 @@ pub struct Stepped {
     pub answer: u32,
     pub words: [u32; 24],
     pub cells: Cells,
+}
+
+// How one word ranks against another, in SWAP's order.
+pub enum Order {
+    Below,
+    Equal,
+    Above,
 }
 
 // A piece of a LUT: what a coefficient word's two bytes stand for.

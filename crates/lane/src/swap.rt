@@ -1,6 +1,11 @@
-// SWAP: which lanes act, the order of words, and the decision.
+// SWAP: which lanes act, the comparison of words, and the decision.
+use crate::Order;
 use crate::words::enabled;
+use crate::words::keep;
 ghost use mathlib.Core.Path.{_≡_};
+ghost use Prim.Native.Nat.{_+_, _-_};
+ghost use lib.Dec.{ltb};
+ghost use Rattle.lane.specs.Words.{pick};
 ghost use Rattle.lane.specs.Swap as Swap;
 
 // For each mod, the lanes in which vd wants the minimum, lane 0 the lowest bit.
@@ -44,18 +49,43 @@ pub(crate) fn acts(vd: u32, config: u32, use_flag: u32, lane_flag: u32) -> bool
     ((vd < 12) | (config / 16 % 2 == 1)) & enabled(use_flag, lane_flag)
 }
 
-// Whether `c` ranks below `d`: words with the top bit clear in their own order, above all others, which go the other way round.
-fn ranks_below(c: u32, d: u32) -> bool
-    ensures { λ r. ⌜ r ≡ Swap.ranksBelow c d ⌝ }
+// A word's place in the order of ranks, the lowest 0, so that comparing numbers compares ranks. The last exclusive or is that of a signed comparison's
+// turn, so that a processor that compares signed words alone has none to add.
+fn key(x: u32) -> u32
+    ensures { λ r. ⌜ r ≡ pick (ltb x 0x80000000) (x + 0x80000000) (0xFFFFFFFF - x) ⌝ }
 {
-    let c_negative = 0x80000000 <= c;
-    let d_negative = 0x80000000 <= d;
-    (!d_negative & (c_negative | (c < d))) | (d_negative & (c_negative & (d < c)))
+    (x ^ keep(0x80000000 <= x, 0x7FFFFFFF, 0)) ^ 0x80000000
+}
+
+// How `c` ranks against `d`.
+pub fn compared(c: u32, d: u32) -> Order
+    ensures { λ r. ⌜ r ≡ Swap.compared c d ⌝ }
+{
+    let a = key(c);
+    let b = key(d);
+    if a < b {
+        Order::Below
+    } else if a == b {
+        Order::Equal
+    } else {
+        Order::Above
+    }
+}
+
+// Whether that answer is below, by which SWAP decides.
+pub fn is_below(order: Order) -> bool
+    ensures { λ r. ⌜ r ≡ Swap.isBelow order ⌝ }
+{
+    match order {
+        Order::Below => true,
+        Order::Equal => false,
+        Order::Above => false,
+    }
 }
 
 // Whether a lane swaps: always, or by the order that vd wants, which bit 8 reverses.
 pub(crate) fn swaps(always: bool, minimum: bool, reversed: bool, c: u32, d: u32) -> bool
     ensures { λ r. ⌜ r ≡ Swap.swaps always minimum reversed c d ⌝ }
 {
-    always | (reversed != (minimum == ranks_below(c, d)))
+    always | (reversed != (minimum == is_below(compared(c, d))))
 }

@@ -12,6 +12,7 @@ pub mod ComputeRows
 pub mod Dsts
 pub mod LoadRows
 pub mod SwapRows
+pub mod Counts
 pub mod StoreRows
 pub mod LutRows
 pub mod ConfigRows

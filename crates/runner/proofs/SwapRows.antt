@@ -1,27 +1,25 @@
--- SWAP by rows: keys are in the order of ranks, the masks are those of the rule's tests, and the stores under them are in each lane those of the
--- rule. Assumes nothing.
+-- SWAP by rows: the masks are those of the rule's tests, and the stores under them are in each lane those of the rule. Assumes nothing.
 use mathlib.Core.Path.{_≡_, refl, sym, ap, _∙_, fun-ext}
-use Prim.Native.Nat.{ℕ, _+_, _-_, _*_, _/_, _%_, _^_, _<_, _≤_}
-use native.Mathlib.Nat.{zero-add}
+use Prim.Native.Nat.{ℕ, _+_, _-_, _*_, _/_, _%_, _<_, _≤_}
 use native.Mathlib.Omega.{arith}
 use native.Mathlib.Decide.{ℕ-discrete}
 use mathlib.Core.Bool.{Bool, true, false, not, Bool·beq, _&&_, _||_, false≢true}
 use mathlib.Core.List.{List, [], _∷_, _++_, append-assoc}
 use lib.ListN.{length, getD, set, length-set}
 use lib.Seq.{getD-set-same, getD-set-other}
-use lib.Bits.{bitAnd, bitOr, bitXor, and-mask, xor-add-and, xor-shifted, xor-block, xor-zero-r, xor-comm}
-use lib.Dec.{eqb, ltb, leb}
-use borrow.Author.Tests.{lt-ltb, le-ltb, le-leb, lt-leb, eq-eqb, ne-eqb}
+use lib.Bits.{bitAnd, bitOr, bitXor}
+use lib.Dec.{eqb, ltb}
+use borrow.Author.Tests.{lt-ltb, le-ltb, eq-eqb, ne-eqb}
 use Rattle.lane.specs.declared.Insn.{Insn}
 use Rattle.lane.specs.Words.{pick, bit, Lane, Stores, reg, upd, after, enabled}
-use Rattle.lane.specs.Swap.{rank, ranksBelow, below, plainSwap, indexSwap, indexOf, swapWith, swap, maskOf, swaps}
+use Rattle.lane.specs.Swap.{compared, isBelow, below, plainSwap, indexSwap, indexOf, swapWith, swap, maskOf, swaps}
 use Rattle.lane.proofs.Cases.{pick-true, pick-false}
 use Rattle.lane.proofs.Ranks.{swaps-is}
 use Rattle.lane.proofs.Tables.{and-left}
 use Rattle.lane.proofs.Stores.{length-build, getD-build, upd-same, upd-other, after-append}
 use Rattle.runner.specs.Image.{laneIn}
 use Rattle.runner.specs.PrivateRows.{storing, storingIn, row, full, Enabled, marked, Masks}
-use Rattle.runner.specs.PrivateSwap.{key, swapsBy, part, maskRows, NoIndex, storedUnder, exchanged, masksAt, storedTo, storedBoth}
+use Rattle.runner.specs.PrivateSwap.{swapsBy, part, maskRows, NoIndex, storedUnder, exchanged, masksAt, storedTo, storedBoth}
 use Rattle.runner.proofs.Masks.{marks, masks-of}
 use Rattle.runner.proofs.Lanes.{split, same-lanes, own-lanes, storing-same, storing-then, lane-storing, storing-none, in-then}
 use Rattle.runner.proofs.Filled.{Spread, none-below, spread-start, put-holds, operand}
@@ -29,51 +27,6 @@ use Rattle.runner.proofs.Enabled.{quiet-enabled}
 use Rattle.runner.proofs.Quick.{no-or}
 use Rattle.runner.proofs.Quiet.{quiet-swap}
 use Rattle.runner.proofs.Operands.{reg-low}
-
--- ---- keys
-
-without : (x y a : ℕ) → 0x80000000 ≤ x → x < 2 ^ 32 → y + a * 2 ≡ x + 0x7FFFFFFF → a ≡ x % 2 ^ 31 → y ≡ 1 * 2 ^ 31 + (0xFFFFFFFF - x)
-without x y a l h e k = omega arith
-
-other-way : (x y : ℕ) → y ≡ 0x80000000 + x → y ≡ x + 0x80000000
-other-way x y e = omega arith
-
-pub key-is : (x m : ℕ) → x < 2 ^ 32 → m ≡ full (leb 0x80000000 x) → bitXor (bitXor x (bitAnd m 0x7FFFFFFF)) 0x80000000 ≡ key x
-unfolding key full pick
-key-is x m h e =
-    ap (λ (k : ℕ). bitXor (bitXor x (bitAnd k 0x7FFFFFFF)) 0x80000000) e
-    ∙ split x 0x80000000
-    (λ k. simp (le-leb 0x80000000 x k, le-ltb x 0x80000000 k) (turned k))
-    (λ k. simp (lt-leb 0x80000000 x k, lt-ltb x 0x80000000 k) (raised k))
-  where
-    -- the top bit set, and the rest turned; then the top bit goes
-    turned : 0x80000000 ≤ x → bitXor (bitXor x 0x7FFFFFFF) 0x80000000 ≡ 0xFFFFFFFF - x
-    turned k =
-        ap (λ (y : ℕ). bitXor y 0x80000000) (without x (bitXor x 0x7FFFFFFF) (bitAnd x 0x7FFFFFFF) k h (xor-add-and x 0x7FFFFFFF) (and-mask x 31))
-        ∙ xor-block 31 1 1 (0xFFFFFFFF - x) 0 (omega arith) (omega arith) ∙ ap (λ (y : ℕ). 0 + y) (xor-zero-r (0xFFFFFFFF - x)) ∙ zero-add (0xFFFFFFFF - x)
-
-    raised : x < 0x80000000 → bitXor (bitXor x 0) 0x80000000 ≡ x + 0x80000000
-    raised k = ap (λ (y : ℕ). bitXor y 0x80000000) (xor-zero-r x) ∙ xor-comm x 0x80000000 ∙ other-way x (bitXor 0x80000000 x) (xor-shifted 1 31 x k)
-
-same-order : (a b c d : ℕ) → (a < b → c < d) → (b ≤ a → d ≤ c) → ltb a b ≡ ltb c d
-same-order a b c d f g = split a b (λ h. le-ltb a b h ∙ sym (le-ltb c d (g h))) (λ h. lt-ltb a b h ∙ sym (lt-ltb c d (f h)))
-
-key-order : (c d : ℕ) → c < 2 ^ 32 → d < 2 ^ 32 → ltb (key c) (key d) ≡ ranksBelow c d
-unfolding key ranksBelow rank pick
-key-order c d fc fd =
-    split c (2 ^ 31)
-    (λ hc.
-    split d (2 ^ 31)
-    (λ hd.
-    simp (le-ltb c (2 ^ 31) hc, le-ltb d (2 ^ 31) hd)
-    (same-order (0xFFFFFFFF - c) (0xFFFFFFFF - d) (d % 2 ^ 31) (c % 2 ^ 31) (λ h. omega arith) (λ h. omega arith)))
-    (λ hd. simp (le-ltb c (2 ^ 31) hc, lt-ltb d (2 ^ 31) hd) (lt-ltb (0xFFFFFFFF - c) (d + 0x80000000) (omega arith))))
-    (λ hc.
-    split d (2 ^ 31)
-    (λ hd. simp (lt-ltb c (2 ^ 31) hc, le-ltb d (2 ^ 31) hd) (le-ltb (c + 0x80000000) (0xFFFFFFFF - d) (omega arith)))
-    (λ hd.
-    simp (lt-ltb c (2 ^ 31) hc, lt-ltb d (2 ^ 31) hd)
-    (same-order (c + 0x80000000) (d + 0x80000000) c d (λ h. omega arith) (λ h. omega arith))))
 
 -- ---- masks
 
@@ -92,21 +45,17 @@ rest-full false true = refl
 rest-full false false = refl
 
 -- the mask of a lane, m being the mask of its tests but for `enabled`
-pub mask-made : (go m kc kd c d : ℕ) (always acting minimum reversed e : Bool) → c < 2 ^ 32 → d < 2 ^ 32 → kc ≡ key c → kd ≡ key d
-    → m ≡ full (acting && (always || not (Bool·beq reversed (Bool·beq minimum (ltb kc kd)))))
+pub mask-made : (go m c d : ℕ) (below always acting minimum reversed e : Bool) → below ≡ isBelow (compared c d)
+    → m ≡ full (acting && (always || not (Bool·beq reversed (Bool·beq minimum below))))
     → go ≡ full e
     → bitAnd go m ≡ full ((acting && e) && swaps always minimum reversed c d)
-mask-made go m kc kd c d always acting minimum reversed e fc fd p q r g =
+mask-made go m c d below always acting minimum reversed e b r g =
     ap (λ (x : ℕ). bitAnd x m) g
-    ∙ ap (λ (x : ℕ). bitAnd (full e) x)
-    (r ∙ ap (λ (b : Bool). full (acting && (always || not (Bool·beq reversed (Bool·beq minimum b))))) (order p q))
+    ∙ ap (λ (x : ℕ). bitAnd (full e) x) (r ∙ ap (λ (b : Bool). full (acting && (always || not (Bool·beq reversed (Bool·beq minimum b))))) b)
     ∙ both-full e _
     ∙ ap full (turn e acting _)
     ∙ ap (λ (b : Bool). full ((acting && e) && b)) (swaps-is always minimum reversed c d)
   where
-    order : kc ≡ key c → kd ≡ key d → ltb kc kd ≡ ranksBelow c d
-    order p q = rw (p, q) (key-order c d fc fd)
-
     turn : (e a s : Bool) → (e && (a && s)) ≡ ((a && e) && s)
     turn true true s = refl
     turn true false s = refl

@@ -1,23 +1,23 @@
 -- Pass over this page with document 01 in the other hand: it is the vocabulary of private functions, and no promise rests on it. It has
--- SWAP by rows: the rows of masks that say which lanes swap, and the stores under them.
-use Prim.Native.Nat.{ℕ, _+_, _-_, _/_, _%_, _<_}
+-- SWAP by rows: the rows of masks that say which lanes swap, the stores under them, and the ties.
+use Prim.Native.Nat.{ℕ, _+_, _/_, _%_, _<_}
 use mathlib.Core.Path.{_≡_}
 use mathlib.Core.Bool.{Bool, not, _&&_, _||_}
 use mathlib.Core.List.{List, [], _∷_, _++_}
 use lib.ListN.{getD}
 use lib.Dec.{eqb, ltb}
 use Rattle.lane.specs.Words.{pick, bit, Lane, Stores, build, enabled, laneConfig, reg}
-use Rattle.lane.specs.Swap.{swaps, inMask}
+use Rattle.lane.specs.Swap.{compared, isEqual, swaps, inMask}
 use Rattle.runner.specs.PrivateRows.{full, marked}
-
--- A word's place in the order of ranks, the lowest 0.
-unfoldable pub key : ℕ → ℕ
-key x = pick (ltb x 0x80000000) (x + 0x80000000) (0xFFFFFFFF - x)
 
 -- Whether a lane swaps: `always` under mod 0, `free` of bit 4 for vd below 12.
 abbrev pub swapsBy : Bool → Bool → ℕ → ℕ → ℕ → ℕ → Lane → Bool
 swapsBy always free mask L c d own =
     ((free || bit (own laneConfig) 4) && enabled own) && swaps always (inMask mask L) (bit (own laneConfig) 8) c d
+
+-- Whether a lane meets an equal pair, c and d: `free` of bit 4 for vd below 12.
+abbrev pub tiedBy : Bool → ℕ → ℕ → Lane → Bool
+tiedBy free c d own = ((free || bit (own laneConfig) 4) && enabled own) && isEqual (compared c d)
 
 -- A lane's tests in the four rows, where it is enabled (e) and swaps (t) with bit 2 set or clear (ix): it is enabled; it swaps; with bit 2 clear; with
 -- bit 2 set.

@@ -1,5 +1,6 @@
--- Document 01, "What the replay covers": one instruction over all lanes, the steps through a list, and a run. Document 02, M-101: "Dst is now written".
-use Prim.Native.Nat.{ℕ, zero, suc, _%_}
+-- Document 01, "What the replay covers": one instruction over all lanes, the steps through a list, and a run. Document 02, M-101: "Dst is now written"; M-102:
+-- ties, counted by column.
+use Prim.Native.Nat.{ℕ, zero, suc, _+_, _%_}
 use mathlib.Core.Path.{_≡_}
 use mathlib.Core.Bool.{true, false}
 use mathlib.Core.List.{List}
@@ -8,9 +9,10 @@ use lib.Dec.{eqb}
 use Rattle.lane.specs.declared.Settings.{Settings}
 use Rattle.lane.specs.declared.Insn.{Insn}
 use Rattle.lane.specs.declared.Cells.{Cells}
-use Rattle.lane.specs.Words.{pick, bit, Lane, laneConfig, build, after}
+use Rattle.lane.specs.Words.{pick, bit, flagOf, Lane, laneConfig, build, after}
 use Rattle.lane.specs.Load.{address, stride, nextCursor, placeOf, isMet, ownerOf}
-use Rattle.lane.specs.Rule.{storesOf, cellsOf}
+use Rattle.lane.specs.Rule.{storesOf, cellsOf, isTied}
+use Rattle.runner.specs.declared.Found.{Found}
 use Rattle.runner.specs.declared.Outcome.{Outcome}
 use Rattle.runner.specs.Image.{laneIn, ofLanes, headOf}
 use Rattle.runner.specs.Checks.{insnAt, countOf, runAnswer}
@@ -78,17 +80,49 @@ unfoldable pub steps : Settings → List ℕ → ℕ → Machine → Machine
 steps s list zero m = m
 steps s list (suc n) m = stepped s (insnAt list n) (steps s list n m)
 
--- The whole list, from an image and a Dst, with the given cursor.
-abbrev pub finish : Settings → List ℕ → List ℕ → List ℕ → Machine
-finish s image dst list = steps s list (countOf list) (record { image = image; dst = dst; cursor = s .cursor })
+-- What a run begins with: an image and a Dst, and the given cursor.
+abbrev pub begin : Settings → List ℕ → List ℕ → Machine
+begin s image dst = record { image = image; dst = dst; cursor = s .cursor }
 
--- "A refusal returns its number, steps 0, the given cursor, and as place .."; "Done returns 0, steps equal to the number of instructions,
--- place 0 and the final cursor."
+-- The whole list.
+abbrev pub finish : Settings → List ℕ → List ℕ → List ℕ → Machine
+finish s image dst list = steps s list (countOf list) (begin s image dst)
+
+-- Document 02, M-102: 1 where lane L met an equal pair in one instruction, else 0: the lane as it was before the instruction.
+abbrev pub tieIn : Insn → List ℕ → ℕ → ℕ
+tieIn i image L = flagOf (isTied (i .op) i L (laneIn image L))
+
+-- What the four lanes of column c have together: lanes c, 8 + c, 16 + c and 24 + c.
+abbrev pub overColumn : (ℕ → ℕ) → ℕ → ℕ
+overColumn f c = f c + f (8 + c) + f (16 + c) + f (24 + c)
+
+-- "for each of the eight columns separately, how many enabled acting lanes met an equal pair .., summed over the list": column c's, over the first n
+-- instructions.
+unfoldable pub tiesAfter : Settings → List ℕ → ℕ → Machine → ℕ → ℕ
+tiesAfter s list zero m c = 0
+tiesAfter s list (suc n) m c = tiesAfter s list n m c + overColumn (tieIn (insnAt list n) (steps s list n m .image)) c
+
+-- The eight counts of a whole list.
+abbrev pub tiesOf : Settings → List ℕ → List ℕ → List ℕ → List ℕ
+tiesOf s image dst list = build 8 (tiesAfter s list (countOf list) (begin s image dst))
+
+-- "0 on refusal".
+abbrev pub noTies : List ℕ
+noTies = build 8 (λ c. 0)
+
+-- "Done returns 0, steps equal to the number of instructions, place 0 and the final cursor."
+abbrev pub whenDone : Settings → List ℕ → List ℕ → List ℕ → Outcome
+whenDone s image dst list =
+    record { answer = 0; steps = countOf list; place = 0; cursor = finish s image dst list .cursor; ties = tiesOf s image dst list }
+
+-- "A refusal returns its number, steps 0, the given cursor, and as place .."
+abbrev pub whenRefused : Settings → Found → Outcome
+whenRefused s f = record { answer = f .answer; steps = 0; place = f .place; cursor = s .cursor; ties = noTies }
+
+-- What a run returns.
 unfoldable pub outcomeOf : Settings → List ℕ → List ℕ → List ℕ → Outcome
 outcomeOf s image dst list =
-    pick (eqb (runAnswer s image dst list .answer) 0)
-    (record { answer = 0; steps = countOf list; place = 0; cursor = finish s image dst list .cursor })
-    (record { answer = runAnswer s image dst list .answer; steps = 0; place = runAnswer s image dst list .place; cursor = s .cursor })
+    pick (eqb (runAnswer s image dst list .answer) 0) (whenDone s image dst list) (whenRefused s (runAnswer s image dst list))
 
 -- The image afterwards; a refusal leaves it untouched.
 unfoldable pub runImage : Settings → List ℕ → List ℕ → List ℕ → List ℕ

@@ -13,6 +13,8 @@ mod compute;
 mod load;
 // STORE over all lanes.
 mod store;
+// SWAP's ties, counted by column.
+mod ties;
 // SWAP over all lanes.
 mod swap;
 // LUT over all lanes.
@@ -36,12 +38,19 @@ pub struct Found {
     pub place: u32,
 }
 
-// What a run returns.
+// What a run returns; `ties` are the columns' counts.
 pub struct Outcome {
     pub answer: u32,
     pub steps: u32,
     pub place: u32,
     pub cursor: u32,
+    pub ties: [u32; 8],
+}
+
+// What the steps through a list end with, beside the image and the Dst.
+struct Ended {
+    cursor: u32,
+    ties: [u32; 8],
 }
 
 // Instruction `k` of a list.

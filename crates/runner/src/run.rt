@@ -1,4 +1,5 @@
 // One instruction over all lanes, and a run: all is checked before the first step.
+use crate::Ended;
 use crate::Outcome;
 use crate::checks::run_answer;
 use crate::compute::exexp;
@@ -29,17 +30,24 @@ ghost use Rattle.runner.specs.Run as Run;
 ghost use Rattle.runner.specs.PrivateRows as Rows;
 ghost use Rattle.runner.specs.PrivateSteps as Steps;
 
-// Any instruction that does not meet Dst, in every lane. `go` are the run's rows of masks, `fixed` the rows of the registers never stored. The op is a constant
-// where one function serves several.
-fn step_stored(s: Settings, i: Insn, image: &mut [u32], go: &mut [u32; 128], fixed: &[u32; 128])
-    requires { ⌜ (length (now image) ≡ 768) × (Rows.Enabled (now go) (now image) × ((now fixed ≡ Rows.fixedRows) × (Load.meetsDst (i .op) ≡ false))) ⌝ }
-    ensures { λ _. ⌜ Steps.Stored s i (now (image .entry)) (now (image .exit)) (now (go .exit)) ⌝ }
+// Any instruction that does not meet Dst, in every lane. `go` are the run's rows of masks, `fixed` the rows of the registers never stored, `ties` the columns'
+// counts. The op is a constant where one function serves several.
+fn step_stored(
+    s: Settings,
+    i: Insn,
+    image: &mut [u32],
+    go: &mut [u32; 128],
+    fixed: &[u32; 128],
+    ties: &mut [u32],
+)
+    requires { ⌜ (length (now image) ≡ 768) × (Rows.Enabled (now go) (now image) × ((now fixed ≡ Rows.fixedRows) × (Steps.Room (now ties) × (Load.meetsDst (i .op) ≡ false)))) ⌝ }
+    ensures { λ _. ⌜ Steps.Stored s i (now (image .entry)) (now (image .exit)) (now (go .exit)) (now (ties .entry)) (now (ties .exit)) ⌝ }
 {
     let op = i.op;
     match op {
         2 => loadi(image, i, go),
         3 => lut(image, i, go),
-        4 => swap(image, i, go, fixed),
+        4 => swap(image, i, go, fixed, ties),
         5 => config(image, s.edition, i),
         6 => iadd(image, i, go, fixed),
         7 => valued(image, 7, i, go, fixed),
@@ -83,50 +91,63 @@ fn step_lanes(
     dst: &mut [u16],
     go: &mut [u32; 128],
     fixed: &[u32; 128],
+    ties: &mut [u32],
 ) -> u32
-    requires { ⌜ (length (now image) ≡ 768) × ((length (now dst) ≡ 16384) × (Rows.Enabled (now go) (now image) × (now fixed ≡ Rows.fixedRows))) ⌝ }
-    ensures { λ r. ⌜ Steps.Left s i cursor (now (image .entry)) (now (dst .entry)) r (now (image .exit)) (now (dst .exit)) (now (go .exit)) ⌝ }
+    requires { ⌜ (length (now image) ≡ 768) × ((length (now dst) ≡ 16384) × (Rows.Enabled (now go) (now image) × ((now fixed ≡ Rows.fixedRows) × Steps.Room (now ties)))) ⌝ }
+    ensures { λ r. ⌜ Steps.Left s i cursor (now (image .entry)) (now (dst .entry)) (now (ties .entry)) r (now (image .exit)) (now (dst .exit)) (now (go .exit)) (now (ties .exit)) ⌝ }
 {
     if meets_dst(i.op) {
         let a = address(i.imm, s.offset, cursor);
         step_dst(s, i, a, image, dst, go, fixed);
         return next_cursor(i.op, cursor, stride(s, i.vb));
     }
-    step_stored(s, i, image, go, fixed);
+    step_stored(s, i, image, go, fixed, ties);
     cursor
 }
 
-// All instructions of a list in turn, from a cursor; the cursor after them. What lasts through them is made once.
-fn step_all(s: Settings, cursor: u32, image: &mut [u32], dst: &mut [u16], list: &[u32]) -> u32
+// All instructions of a list in turn, from a cursor; the cursor after them, and the ties that they met. What lasts through them is made once.
+fn step_all(s: Settings, cursor: u32, image: &mut [u32], dst: &mut [u16], list: &[u32]) -> Ended
     requires { ⌜ (length (now image) ≡ 768) × ((length (now dst) ≡ 16384) × (length (now list) ≤ 6144)) ⌝ }
-    ensures { λ r. ⌜ (r ≡ Steps.from s cursor (now (image .entry)) (now (dst .entry)) (now (list .entry)) .cursor) × ((now (image .exit) ≡ Steps.from s cursor (now (image .entry)) (now (dst .entry)) (now (list .entry)) .image) × (now (dst .exit) ≡ Steps.from s cursor (now (image .entry)) (now (dst .entry)) (now (list .entry)) .dst)) ⌝ }
+    ensures { λ r. ⌜ Steps.Through s cursor (now (image .entry)) (now (dst .entry)) (now (list .entry)) (r .cursor) (now (image .exit)) (now (dst .exit)) (r .ties) ⌝ }
 {
     let count = list.len() / 6;
     let mut go = [0u32; 128];
     enabled_row(image, &mut go);
     let fixed = fixed_rows();
+    let mut ties = [0u32; 8];
     let mut at = cursor;
     let mut k: usize = 0;
     while k < count {
-        at = step_lanes(s, insn_at(list, k), at, image, dst, &mut go, &fixed);
+        at = step_lanes(
+            s,
+            insn_at(list, k),
+            at,
+            image,
+            dst,
+            &mut go,
+            &fixed,
+            &mut ties,
+        );
         k += 1;
     }
-    at
+    Ended { cursor: at, ties }
 }
 
-// A run of a list over an image and a Dst: a refusal leaves both untouched.
+// A run of a list over an image and a Dst: a refusal leaves both untouched, and has no ties.
 pub fn run(s: Settings, image: &mut [u32], dst: &mut [u16], list: &[u32]) -> Outcome
     ensures { λ r. ⌜ Run.Ran s (now (image .entry)) (now (dst .entry)) (now (list .entry)) r (now (image .exit)) (now (dst .exit)) ⌝ }
 {
     let found = run_answer(s, image, dst, list);
     let answer = found.answer;
     if answer == 0 {
-        let cursor = step_all(s, s.cursor, image, dst, list);
+        let ended = step_all(s, s.cursor, image, dst, list);
+        let ties = ended.ties;
         return Outcome {
             answer: 0,
             steps: (list.len() / 6) as u32,
             place: 0,
-            cursor,
+            cursor: ended.cursor,
+            ties,
         };
     }
     Outcome {
@@ -134,5 +155,6 @@ pub fn run(s: Settings, image: &mut [u32], dst: &mut [u16], list: &[u32]) -> Out
         steps: 0,
         place: found.place,
         cursor: s.cursor,
+        ties: [0u32; 8],
     }
 }

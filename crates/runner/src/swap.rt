@@ -5,8 +5,11 @@ use crate::rows::masked;
 use crate::rows::put;
 use crate::rows::source;
 use crate::rows::word_at;
+use crate::ties::count_ties;
 use lane::Insn;
+use lane::swap::compared;
 use lane::swap::in_mask;
+use lane::swap::is_below;
 use lane::swap::mask_of;
 use lane::words::LANE_CONFIG;
 ghost use mathlib.Core.Path.{_≡_};
@@ -14,25 +17,18 @@ ghost use mathlib.Core.Bool.{Bool, _&&_, _||_};
 ghost use Prim.Native.Nat.{_+_, _<_, _≤_};
 ghost use lib.ListN.{length, getD};
 ghost use lib.Dec.{eqb, ltb};
-ghost use Rattle.lane.specs.Words.{bit, enabled, reg};
+ghost use Rattle.lane.specs.Words.{bit, enabled, flagOf, reg};
 ghost use Rattle.lane.specs.Swap as Rules;
 ghost use Rattle.runner.specs.Image.{laneIn};
 ghost use Rattle.runner.specs.PrivateRows as Rows;
+ghost use Rattle.runner.specs.PrivateSteps as Steps;
 ghost use Rattle.runner.specs.PrivateSwap as Swaps;
-
-// A word's place in the order of ranks, so that one comparison of numbers decides it. The last exclusive or is that of a signed comparison's turn, so
-// that a processor that compares signed words alone has none to add.
-fn key(x: u32) -> u32
-    ensures { λ r. ⌜ r ≡ Swaps.key x ⌝ }
-{
-    (x ^ (full(0x80000000 <= x) & 0x7FFFFFFF)) ^ 0x80000000
-}
 
 // The mask of whether a lane swaps, from its mask of being enabled: `always` under mod 0, `free` of bit 4 for vd below 12.
 fn swap_mask(go: u32, always: bool, free: bool, minimum: bool, config: u32, c: u32, d: u32) -> u32
     ensures { λ r. ⌜ ((e : Bool) → go ≡ Rows.full e → r ≡ Rows.full (((free || bit config 4) && e) && Rules.swaps always minimum (bit config 8) c d)) ⌝ }
 {
-    let order = minimum == (key(c) < key(d));
+    let order = minimum == is_below(compared(c, d));
     let swapping = always | ((config / 256 % 2 == 1) != order);
     go & full((free | (config / 16 % 2 == 1)) & swapping)
 }
@@ -148,16 +144,24 @@ fn store_both(image: &mut [u32], i: Insn, c: &[u32; 32], d: &[u32; 32], t: &[u32
     }
 }
 
-// SWAP over all lanes. `t` are the run's rows of masks: the first stays, and the other three are written.
-pub(crate) fn swap(image: &mut [u32], i: Insn, t: &mut [u32; 128], fixed: &[u32; 128])
-    requires { ⌜ (length (now image) ≡ 768) × (Rows.Enabled (now t) (now image) × (now fixed ≡ Rows.fixedRows)) ⌝ }
-    ensures { λ _. ⌜ (now (image .exit) ≡ Rows.storing (now (image .entry)) (λ L. Rules.swap i L (laneIn (now (image .entry)) L))) × Rows.Enabled (now (t .exit)) (now (image .exit)) ⌝ }
+// SWAP over all lanes. `t` are the run's rows of masks: the first stays, and the other three are written. Ties are counted first, from the rows as they were;
+// a register with itself is one in every lane that acts, and nothing is stored.
+pub(crate) fn swap(
+    image: &mut [u32],
+    i: Insn,
+    t: &mut [u32; 128],
+    fixed: &[u32; 128],
+    ties: &mut [u32],
+)
+    requires { ⌜ (length (now image) ≡ 768) × (Rows.Enabled (now t) (now image) × ((now fixed ≡ Rows.fixedRows) × Steps.Room (now ties))) ⌝ }
+    ensures { λ _. ⌜ (now (image .exit) ≡ Rows.storing (now (image .entry)) (λ L. Rules.swap i L (laneIn (now (image .entry)) L))) × (Rows.Enabled (now (t .exit)) (now (image .exit)) × (now (ties .exit) ≡ Steps.counted (now (ties .entry)) (λ L. flagOf (Rules.tied i L (laneIn (now (image .entry)) L))))) ⌝ }
 {
+    let c = source(image, fixed, i.vc);
+    let d = source(image, fixed, i.vd);
+    count_ties(image, i, t, &c, &d, ties);
     if i.vc == i.vd {
         return;
     }
-    let c = source(image, fixed, i.vc);
-    let d = source(image, fixed, i.vd);
     let seen = masks_of(image, i, &c, &d, t);
     store_both(image, i, &c, &d, t);
     let p = (4 + i.vc % 4) as usize;

@@ -6,22 +6,22 @@ use Rattle.runner.proofs.run.step_lanes.Tie as tie
 
 step-dst-requires : tie.Need-step-dst-requires
 step-dst-requires c κs =
-    let pre = c .before .before .before .before .before .before .before .before .pre in
-    (pre .0, (pre .1 .0, (pre .1 .1 .0, (pre .1 .1 .1, (omega (arith, c .before .before .before .address .ensures), rw (c .before .before .before .before .before .meets-dst .ensures) at (c .before .before .before .before .if1 .taken))))))
+    let pre = c .before .before .before .before .before .before .before .before .before .pre in
+    (pre .0, (pre .1 .0, (pre .1 .1 .0, (pre .1 .1 .1 .0, (omega (arith, c .before .before .before .address .ensures), rw (c .before .before .before .before .before .meets-dst .ensures) at (c .before .before .before .before .if1 .taken))))))
 
 returns : tie.Need-returns
-returns c = met-left _ _ _ _ _ _ _ _ _ _ (c .before .before .before .before .before .before .before .before .before .before .address .ensures) (rw (c .before .stride .ensures) at (c .next-cursor .ensures)) (c .before .before .before .before .before .before .step-dst .ensures)
+returns c = met-left _ _ _ _ _ _ _ _ _ _ _ (rw (c .before .before .before .before .before .before .before .before .before .before .before .before .meets-dst .ensures) at (c .before .before .before .before .before .before .before .before .before .before .before .if1 .taken)) (c .before .before .before .before .before .before .before .before .before .before .before .before .before .before .before .before .pre .1 .1 .1 .1 .eight) (c .before .before .before .before .before .before .before .before .before .before .address .ensures) (rw (c .before .stride .ensures) at (c .next-cursor .ensures)) (c .before .before .before .before .before .before .step-dst .ensures)
 
 step-stored-requires : tie.Need-step-stored-requires
 step-stored-requires c κs =
-    let pre = c .before .before .before .before .before .before .pre in
-    (pre .0, (pre .1 .1 .0, (pre .1 .1 .1, rw (c .before .before .before .meets-dst .ensures) at (c .before .before .if1 .left))))
+    let pre = c .before .before .before .before .before .before .before .before .pre in
+    (pre .0, (pre .1 .1 .0, (pre .1 .1 .1 .0, (pre .1 .1 .1 .1, rw (c .before .before .before .before .meets-dst .ensures) at (c .before .before .before .if1 .left)))))
 
 returns-2 : tie.Need-returns-2
-returns-2 c = stored-left _ _ _ _ _ _ _ (rw (c .before .before .before .before .before .before .meets-dst .ensures) at (c .before .before .before .before .before .if1 .left)) (c .before .before .before .before .before .before .before .before .before .pre .1 .0) (c .before .before .step-stored .ensures)
+returns-2 c = stored-left _ _ _ _ _ _ _ _ _ (rw (c .before .before .before .before .before .before .before .before .before .meets-dst .ensures) at (c .before .before .before .before .before .before .before .before .if1 .left)) (c .before .before .before .before .before .before .before .before .before .before .before .before .before .pre .1 .0) (c .before .before .before .before .step-stored .ensures)
 
 pub step-lanes-spec : {M : Type 1} → statement M
 step-lanes-spec =
     tie.close
     (tie.spec
-    (λ c κs. search needs) (λ c κs. search needs) step-dst-requires (λ c κs. search needs) (λ c κs. search needs) (λ c. search needs) (λ c. search needs) returns step-stored-requires (λ c. search needs) returns-2)
+    (λ c κs. search needs) (λ c κs. search needs) step-dst-requires (λ c κs. search needs) (λ c κs. search needs) (λ c. search needs) (λ c. search needs) returns step-stored-requires (λ c. search needs) (λ c. search needs) returns-2)

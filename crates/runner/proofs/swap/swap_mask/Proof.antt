@@ -6,7 +6,7 @@ use mathlib.Core.Bool.{_||_}
 use Rattle.runner.proofs.swap.swap_mask.Tie as tie
 
 returns : tie.Need-returns
-returns c = λ e g. let a = c .before .before .before .args in mask-made (a .go) _ _ _ (a .c) (a .d) (a .always) (a .free || bit (a .config) 4) (a .minimum) (bit (a .config) 8) e (c .before .before .before .fits .c .fits) (c .before .before .before .fits .d .fits) (c .before .before .key .ensures) (c .before .key2 .ensures) (c .full .ensures) g
+returns c = λ e g. let a = c .before .before .before .args in mask-made (a .go) _ (a .c) (a .d) _ (a .always) (a .free || bit (a .config) 4) (a .minimum) (bit (a .config) 8) e (rw (c .before .before .compared .ensures) at (c .before .is-below .ensures)) (c .full .ensures) g
 
 pub swap-mask-spec : {M : Type 1} → statement M
 swap-mask-spec =
