@@ -28,7 +28,7 @@ enum { PROGRAMS = sizeof programs / sizeof *programs };
 
 /* What a program leaves of a case. */
 struct left {
-    uint32_t image[ROOM_IMAGE], outcome[4];
+    uint32_t image[ROOM_IMAGE], outcome[OUTCOME];
     uint16_t dst[ROOM_DST];
 };
 
@@ -36,11 +36,14 @@ static uint32_t run_case(const struct program *p, const struct run_case *c, stru
 {
     memcpy(left->image, c->image, sizeof c->image);
     memcpy(left->dst, c->dst, sizeof c->dst);
+    memset(left->outcome, 0xFF, sizeof left->outcome);      /* what is not written then shows */
     return p->run(c->settings, left->image, c->image_len, left->dst, c->dst_len, c->list, c->list_len, left->outcome);
 }
 
-/* The answer, which is the same by all programs. */
-static uint32_t must_match(const struct run_case *c)
+/* Of the cases compared. */
+struct met { unsigned cases, refused, ties; };
+
+static void must_match(const struct run_case *c, struct met *met)
 {
     static struct left right, left;
     uint32_t answer = run_case(&programs[PROGRAMS - 1], c, &right);
@@ -53,19 +56,30 @@ static uint32_t must_match(const struct run_case *c)
                 (unsigned)c->list[F_MOD]);
         exit(1);
     }
-    return answer;
+    bool ties = false;
+    for (unsigned k = O_TIES; k < OUTCOME; k++) ties |= right.outcome[k] != 0;
+    met->cases++, met->refused += answer != 0, met->ties += ties;
+}
+
+/* Cases without a tie would say nothing of the counts. */
+static void say(const struct met *met, const char *what)
+{
+    printf("%u %s, %u of them refused, %u with ties: all agree.\n", met->cases, what, met->refused, met->ties);
+    if (met->ties != 0) return;
+    fprintf(stderr, "bench: no ties among the %s\n", what);
+    exit(1);
 }
 
 static void compare_random(unsigned count)
 {
     static struct any_case c;
-    unsigned runs = 0, refused = 0;
+    struct met met = {0};
     FILE *cases = tmpfile();
     if (cases == NULL) exit(1);
     ind_cases(20261115, count, 0, 0, cases);
-    for (rewind(cases); ind_next(cases, &c); runs++) refused += must_match(&c.run) != 0;
+    for (rewind(cases); ind_next(cases, &c);) must_match(&c.run, &met);
     fclose(cases);
-    printf("%u random runs, %u of them refused: all agree.\n", runs, refused);
+    say(&met, "random runs");
 }
 
 /* Each op with each mod, and one other field at a limit. */
@@ -73,7 +87,7 @@ static void compare_fields(void)
 {
     static const uint32_t values[] = {0, 1, 3, 4, 7, 8, 11, 12, 15, 16, 1023, 1024, 4095, 4096, 65535, 65536, 0xFFFFFFFF};
     static struct run_case c;
-    unsigned count = 0, refused = 0;
+    struct met met = {0};
     const struct list *mix = make_list(0, OPS - 1);
     c.image_len = LIST_IMAGE, c.dst_len = LIST_DST, c.list_len = 6;
     memcpy(c.settings, list_settings, sizeof list_settings);
@@ -85,9 +99,10 @@ static void compare_fields(void)
                 for (unsigned v = 0; v < sizeof values / sizeof *values; v++) {
                     memset(c.list, 0, 6 * sizeof *c.list);
                     c.list[F_OP] = op, c.list[F_MOD] = mod, c.list[field] = values[v];
-                    count++, refused += must_match(&c) != 0;
+                    must_match(&c, &met);
                 }
-    printf("%u single instructions, %u of them refused: all agree.\n\n", count, refused);
+    say(&met, "single instructions");
+    printf("\n");
 }
 
 int main(int argc, char **argv)

@@ -2,6 +2,7 @@
 
 #include "../tests/independent/independent.h"
 
+#include <stdbool.h>
 #include <string.h>
 
 const uint32_t list_settings[8] = {2, 2, 17, 3, 4, 1, 64, 1023};
@@ -16,6 +17,7 @@ static const struct shape {
     uint32_t last;              /* the last op of a mix; 0: as for all lists */
     const char *mods, *vds;     /* NULL: the op's own */
     uint32_t config;            /* bits of LaneConfig that every lane has besides */
+    bool alike;                 /* every register starts as 0 or 1.0, which 9 and 10 hold: many pairs are equal */
     size_t count;               /* 0: as many as a list may have */
 } shapes[] = {
     {"mix", .op = 0},
@@ -28,7 +30,7 @@ static const struct shape {
     {"LOAD mod 8", .op = LOAD, .mods = "8"}, {"LOAD mod 9", .op = LOAD, .mods = "9"}, {"LOAD mod 11", .op = LOAD, .mods = "B"},
     {"LOAD mod 13", .op = LOAD, .mods = "D"}, {"LOAD mod 14", .op = LOAD, .mods = "E"}, {"LOAD mod 15", .op = LOAD, .mods = "F"},
     {"STORE mod 2", .op = STORE, .mods = "2"}, {"STORE mod 6", .op = STORE, .mods = "6"}, {"STORE mod 7", .op = STORE, .mods = "7"},
-    {"SWAP by index", .op = SWAP, .config = 1 << 2},
+    {"SWAP by index", .op = SWAP, .config = 1 << 2}, {"SWAP, ties", .op = SWAP, .alike = true},
     {"LUT mod 8", .op = LUT, .mods = "8"}, {"LUT mod 12", .op = LUT, .mods = "C"},
     {"CONFIG to 8", .op = CONFIG, .vds = "8"}, {"CONFIG to 15", .op = CONFIG, .vds = "F"},
     {"mix, vd to 15", .vds = EVERY},
@@ -81,7 +83,7 @@ static void make_insn(const struct shape *s, uint32_t last, uint32_t insn[6])
  * for a normal float, whoever asks for it. */
 static uint32_t around_1(uint32_t word) { return (word & 0x80000000) | (0x3E000000 + word % 0x03000000); }
 
-static void make_images(uint32_t images[IMAGE_KINDS][LIST_IMAGE], uint32_t config)
+static void make_images(uint32_t images[IMAGE_KINDS][LIST_IMAGE], uint32_t config, bool alike)
 {
     for (unsigned i = 0; i < LIST_IMAGE; i++) {
         uint32_t quiet = word(), mixed = word();
@@ -92,6 +94,7 @@ static void make_images(uint32_t images[IMAGE_KINDS][LIST_IMAGE], uint32_t confi
         case SLOT_USE:    quiet = 0, mixed = any(2); break;
         case SLOT_MISC:   quiet %= 4096, mixed %= 4096; break;
         }
+        if (alike && i / LANES < SLOT_CONFIG) quiet = quiet % 2 * 0x3F800000, mixed = mixed % 2 * 0x3F800000;
         images[QUIET][i] = quiet, images[MIXED][i] = mixed;
     }
 }
@@ -102,7 +105,7 @@ const struct list *make_list(unsigned k, uint32_t last)
     if (k >= sizeof shapes / sizeof *shapes) return NULL;
     const struct shape *s = &shapes[k];
     seed = 0x9E3779B97F4A7C15u;         /* the same images for all lists, and the short mixes begin the long one */
-    make_images(made.image, s->config);
+    make_images(made.image, s->config, s->alike);
     for (unsigned i = 0; i < LIST_DST; i++) list_dst[i] = (uint16_t)any(65536);
     made.name = s->name;
     made.count = s->op > last ? 0 : s->count ? s->count : MAX_INSNS;

@@ -25,6 +25,7 @@ typedef uint32_t row[LANES];
 
 struct run {
     _Alignas(64) row flag, free, on;    /* LaneFlag is 1, UseFlag is 0, and either: enabled. So a lane that is not enabled has flag 0. */
+    row ties;                           /* how often a lane met an equal pair in a SWAP with mod other than 0 */
     row idle[2];                        /* takes what SWAP would store to registers that are never stored */
     uint32_t *image;
     const uint32_t *reg[16];            /* the row of each register */
@@ -206,7 +207,8 @@ static const row minimum[16] = {
 /* Signed numbers in the order of ranks. */
 static inline uint32_t rank(uint32_t word) { return word ^ sign(word) >> 1; }
 
-/* Called with constants: `always` for mod 0, `open` where vd is below 12. */
+/* Called with constants: `always` for mod 0, `open` where vd is below 12. A tie is equal words, as no two words have one rank; its mask is
+ * minus 1. */
 static inline void swap_as(struct run *r, const uint32_t *insn, bool always, bool open)
 {
     uint32_t vc = insn[VC], vd = insn[VD], high_c = full(vc >= 4), high_d = full(vd >= 4);
@@ -216,6 +218,7 @@ static inline void swap_as(struct run *r, const uint32_t *insn, bool always, boo
     EACH_LANE(n) {
         uint32_t old_c = c[n], old_d = d[n], go = r->on[n];
         if (!open) go &= has(config[n], NO_BACKDOOR);
+        if (!always) r->ties[n] -= go & full(old_c == old_d);
         if (!always) go &= ~(less(rank(old_c), rank(old_d)) ^ wants[n] ^ has(config[n], EXCHANGE));
         index[n] = go & has(config[n], INDEX);
         uint32_t change = (old_c ^ old_d) & go;
@@ -231,12 +234,22 @@ static inline void swap_as(struct run *r, const uint32_t *insn, bool always, boo
     }
 }
 
+/* Of a register with itself nothing moves, and every lane that acts has a tie. */
+static inline void swap_with_itself(struct run *r, const uint32_t *insn)
+{
+    const uint32_t *config = at(r, LANE_CONFIG);
+    if (insn[MOD] == 0) return;
+    if (insn[VD] < 12) EACH_LANE(n) r->ties[n] -= r->on[n];
+    else EACH_LANE(n) r->ties[n] -= r->on[n] & has(config[n], NO_BACKDOOR);
+}
+
 static inline void swap(struct run *r, const uint32_t *insn)
 {
-    if (insn[VC] == insn[VD]) return;
-    if (insn[VD] >= 12) swap_as(r, insn, insn[MOD] == 0, false);
-    else if (insn[MOD] == 0) swap_as(r, insn, true, true);
-    else swap_as(r, insn, false, true);
+    if (insn[VC] == insn[VD]) swap_with_itself(r, insn);
+    else if (insn[MOD] != 0 && insn[VD] < 12) swap_as(r, insn, false, true);
+    else if (insn[MOD] != 0) swap_as(r, insn, false, false);
+    else if (insn[VD] < 12) swap_as(r, insn, true, true);
+    else swap_as(r, insn, true, false);
 }
 
 /* CONFIG. Every way of storing is (old & kept) ^ put, with two words for a column. */
@@ -426,18 +439,21 @@ static inline void begin(struct run *r, const uint32_t *settings, uint32_t *imag
     for (unsigned k = 11; k < 15; k++) r->reg[k] = at(r, R11 + k - 11);
     const uint32_t *flag = at(r, LANE_FLAG), *use = at(r, USE_FLAG);
     EACH_LANE(n) r->free[n] = use[n] - 1, put_flag(r, n, 0u - flag[n]);
+    memcpy(r->ties, register9, sizeof r->ties);     /* zeros, copied: gcc sets a row by rep stos, a tenth of the time of a list of one */
 }
 
 uint32_t plain_run(const uint32_t settings[8], uint32_t *image, size_t image_len, uint16_t *dst, size_t dst_len,
-                   const uint32_t *list, size_t list_len, uint32_t outcome[4])
+                   const uint32_t *list, size_t list_len, uint32_t outcome[12])
 {
     uint32_t place = 0, answer = fault(settings, image, image_len, dst_len, list, list_len, &place), steps = 0, cursor = settings[3];
+    EACH_COLUMN(j) outcome[4 + j] = 0;
     if (answer == 0) {
         struct run r;
         begin(&r, settings, image, dst);
         for (size_t i = 0; i < list_len; i += WORDS) step(&r, list + i);
         uint32_t *flag = at(&r, LANE_FLAG);
         EACH_LANE(n) flag[n] = r.flag[n] & 1;
+        EACH_COLUMN(j) outcome[4 + j] = r.ties[j] + r.ties[8 + j] + r.ties[16 + j] + r.ties[24 + j];
         steps = (uint32_t)(list_len / WORDS), cursor = r.cursor;
     }
     outcome[0] = answer, outcome[1] = steps, outcome[2] = place, outcome[3] = cursor;

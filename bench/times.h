@@ -5,9 +5,12 @@
 #include <stddef.h>
 #include <stdint.h>
 
+/* The words of a run's outcome, the ties of the eight columns among them. */
+enum { OUTCOME = 12 };
+
 /* As replay_run. */
 typedef uint32_t run_fn(const uint32_t settings[8], uint32_t *image, size_t image_len, uint16_t *dst, size_t dst_len,
-                        const uint32_t *list, size_t list_len, uint32_t outcome[4]);
+                        const uint32_t *list, size_t list_len, uint32_t outcome[OUTCOME]);
 
 struct program {
     const char *name;
@@ -19,7 +22,7 @@ enum { MAX_PROGRAMS = 4 };
 /* Times every list, in rounds of about `us` microseconds for each program, and prints a table in Markdown: ns an instruction of each program
  * and the first one's time over each other's, from a mixed image; then the first one's over the second's from a quiet one.
  * Where two programs do not agree, the process ends with a complaint: a fast wrong answer is not a time. Ops that one of them
- * does not know are left out. */
+ * does not know are left out, and ties that one of them does not count are not compared with it. */
 void print_times(const struct program *programs, unsigned count, unsigned rounds, unsigned us);
 
 #endif
