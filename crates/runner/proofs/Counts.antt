@@ -55,24 +55,9 @@ tie-made go m config c d free e fc fd h g =
 
 -- ---- the eight counters
 
-pub counted-same : (ties : List ℕ) (f g : ℕ → ℕ) → ((L : ℕ) → L < 32 → f L ≡ g L) → counted ties f ≡ counted ties g
+counted-same : (ties : List ℕ) (f g : ℕ → ℕ) → ((L : ℕ) → L < 32 → f L ≡ g L) → counted ties f ≡ counted ties g
 unfolding counted
 counted-same ties f g h = build-same 8 _ _ (λ c l. cc (h c (omega arith), h (8 + c) (omega arith), h (16 + c) (omega arith), h (24 + c) (omega arith)))
-
-nothing-more : (n a b c d : ℕ) → a ≡ 0 → b ≡ 0 → c ≡ 0 → d ≡ 0 → n ≡ n + (a + b + c + d)
-nothing-more n a b c d p q r s = omega arith
-
-pub counted-none : (ties : List ℕ) (f : ℕ → ℕ) → length ties ≡ 8 → ((L : ℕ) → L < 32 → f L ≡ 0) → ties ≡ counted ties f
-unfolding counted
-counted-none ties f e h =
-    ext-getD 0 ties (build 8 (λ c. getD ties c 0 + overColumn f c)) (e ∙ sym (length-build 8 _))
-    (λ c l. at c (omega (arith, e)))
-  where
-    at : (c : ℕ) → c < 8 → getD ties c 0 ≡ getD (build 8 (λ c. getD ties c 0 + overColumn f c)) c 0
-    at c l =
-        nothing-more (getD ties c 0) (f c) (f (8 + c)) (f (16 + c)) (f (24 + c)) (h c (omega arith)) (h (8 + c) (omega arith)) (h (16 + c) (omega arith))
-        (h (24 + c) (omega arith))
-        ∙ sym (getD-build 8 (λ c. getD ties c 0 + overColumn f c) c l)
 
 -- the first n columns counted, the others as they were
 pub record Counting (more : ℕ → ℕ) (before : List ℕ) (n : ℕ) (ties : List ℕ) : Type 0 where
@@ -111,6 +96,22 @@ unfolding counted
 counting-end more before n ties l h =
     ext-getD 0 ties (build 8 (λ c. getD before c 0 + overColumn more c)) (h .long ∙ sym (length-build 8 _))
     (λ c m. h .made c (omega (arith, h .long)) ∙ sym (getD-build 8 (λ c. getD before c 0 + overColumn more c) c (omega (arith, h .long))))
+
+nothing-more : (n a b c d : ℕ) → a ≡ 0 → b ≡ 0 → c ≡ 0 → d ≡ 0 → n ≡ n + (a + b + c + d)
+nothing-more n a b c d p q r s = omega arith
+
+-- with nothing to count, all are counted as they are
+counted-none : (ties : List ℕ) (f : ℕ → ℕ) → length ties ≡ 8 → ((L : ℕ) → L < 32 → f L ≡ 0) → ties ≡ counted ties f
+counted-none ties f e h =
+    counting-end f ties 8 ties (omega arith)
+    (record {
+      long = e;
+      made =
+          λ c l.
+          nothing-more (getD ties c 0) (f c) (f (8 + c)) (f (16 + c)) (f (24 + c)) (h c (omega arith)) (h (8 + c) (omega arith)) (h (16 + c) (omega arith))
+          (h (24 + c) (omega arith));
+      kept = λ c l. refl;
+    })
 
 -- ---- a SWAP
 

@@ -32,7 +32,7 @@ fn tie_at(image: &[u32], free: bool, go: &[u32; 128], c: &[u32; 32], d: &[u32; 3
 }
 
 // The columns one by one, each with its four lanes, so that eight counters are read and written where 32 would be. They are lent as a part, whose length the
-// compiler learns late: it would unroll the loop before it weighs the steps, which would then no longer be one function.
+// compiler learns late: else it unrolls the loop before it weighs the steps, which then come close to its bound for one function (bench/RESULTS.md).
 fn count_columns(
     image: &[u32],
     free: bool,
