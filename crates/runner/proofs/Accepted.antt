@@ -19,7 +19,7 @@ use Rattle.runner.specs.Checks.{insnAt, countOf, found, scan, scanned, g
 
 -- ---- a check that is passed, and one that gives a number
 
-passed : (t : Bool) (n rest : ℕ) → pass t (n + 1) rest ≡ 0 → (t ≡ true) × (rest ≡ 0)
+pub passed : (t : Bool) (n rest : ℕ) → pass t (n + 1) rest ≡ 0 → (t ≡ true) × (rest ≡ 0)
 unfolding pass pick
 passed true n rest h = (refl, h)
 passed false n rest h = absurd (none n h)
@@ -27,7 +27,7 @@ passed false n rest h = absurd (none n h)
     none : (n : ℕ) → n + 1 ≡ 0 → ⊥
     none n h = omega arith
 
-pass-on : (t : Bool) (n rest : ℕ) → t ≡ true → pass t n rest ≡ rest
+pub pass-on : (t : Bool) (n rest : ℕ) → t ≡ true → pass t n rest ≡ rest
 unfolding pass
 pass-on t n rest h = pick-true t rest n h
 
@@ -73,7 +73,7 @@ pub record Passed (s : Settings) (image dst list : List ℕ) : Type 0 where
   pub list-given : Given s list
   pub image-good : imageGood image ≡ true
 
-chosen : (n rest : ℕ) → pick (eqb n 0) rest n ≡ 0 → (n ≡ 0) × (rest ≡ 0)
+pub chosen : (n rest : ℕ) → pick (eqb n 0) rest n ≡ 0 → (n ≡ 0) × (rest ≡ 0)
 unfolding pick
 chosen n rest h = go (eqb n 0) refl h
   where
@@ -95,7 +95,7 @@ first s image dst list h =
       image-good = d .0;
     }
 
-none-first : (s : Settings) (image dst list : List ℕ) → Passed s image dst list → firstAnswer s image dst list ≡ 0
+pub none-first : (s : Settings) (image dst list : List ℕ) → Passed s image dst list → firstAnswer s image dst list ≡ 0
 unfolding firstAnswer
 none-first s image dst list p =
     pass-on (eqb (length image) 768) 1 _ (eq-eqb (length image) 768 (p .image-long))

@@ -19,3 +19,4 @@ pub mod ConfigRows
 pub mod Accepted
 pub mod Steps
 pub mod Views
+pub mod Walks

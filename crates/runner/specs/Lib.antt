@@ -2,6 +2,7 @@
 pub mod Image
 pub mod Checks
 pub mod Run
+pub mod Walk
 -- The vocabulary of private functions, which no promise rests on: pass over it.
 pub mod PrivateQuick
 pub mod PrivateRows

@@ -129,7 +129,7 @@ fn plain(i: Insn) -> bool
 }
 
 // 7, 8, 9 or 0 for an instruction. All but the refused are plainly good, and that is quickly seen.
-fn answer_of(i: Insn) -> u32
+pub(crate) fn answer_of(i: Insn) -> u32
     ensures { λ r. ⌜ r ≡ instructionAnswer true i ⌝ }
 {
     if plain(i) {
@@ -181,7 +181,7 @@ fn given_answer(s: Settings, list: &[u32]) -> u32
 }
 
 // 1 to 6, in that order, or 0 where none is given.
-fn first_answer(s: Settings, image: &[u32], dst: &[u16], list: &[u32]) -> u32
+pub(crate) fn first_answer(s: Settings, image: &[u32], dst: &[u16], list: &[u32]) -> u32
     ensures { λ r. ⌜ r ≡ Checks.firstAnswer s (now (image .entry)) (now (dst .entry)) (now (list .entry)) ⌝ }
 {
     if image.len() != 768 {

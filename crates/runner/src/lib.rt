@@ -23,6 +23,8 @@ mod lut;
 mod config;
 // One instruction over all lanes, and a run.
 pub mod run;
+// A walk over a list, one step at a time, forward and back.
+pub mod walk;
 // A stored register's lanes, as a part of the image.
 pub mod view;
 

@@ -55,7 +55,7 @@ fn pairs(dst: &[u16], at: usize) -> [u32; 64]
 }
 
 // The cell of each lane: the odd one of its pair, or the even one, by its mask.
-fn cells(dst: &[u16], at: usize, odds: &[u32; 32]) -> [u32; 32]
+pub(crate) fn cells(dst: &[u16], at: usize, odds: &[u32; 32]) -> [u32; 32]
     requires { ⌜ at + 64 ≤ length (now dst) ⌝ }
     ensures { λ x. ⌜ ((odd : ℕ → Bool) → now (odds .entry) ≡ Rows.row (λ L. Rows.full (odd L)) → x ≡ Rows.row (λ L. LoadRows.cellOf (now (dst .entry)) at (odd L) L)) ⌝ }
 {

@@ -106,7 +106,13 @@ fn step_lanes(
 }
 
 // All instructions of a list in turn, from a cursor; the cursor after them, and the ties that they met. What lasts through them is made once.
-fn step_all(s: Settings, cursor: u32, image: &mut [u32], dst: &mut [u16], list: &[u32]) -> Ended
+pub(crate) fn step_all(
+    s: Settings,
+    cursor: u32,
+    image: &mut [u32],
+    dst: &mut [u16],
+    list: &[u32],
+) -> Ended
     requires { ⌜ (length (now image) ≡ 768) × ((length (now dst) ≡ 16384) × (length (now list) ≤ 6144)) ⌝ }
     ensures { λ r. ⌜ Steps.Through s cursor (now (image .entry)) (now (dst .entry)) (now (list .entry)) (r .cursor) (now (image .exit)) (now (dst .exit)) (r .ties) ⌝ }
 {

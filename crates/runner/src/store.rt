@@ -57,7 +57,14 @@ fn pair_after(go: u32, odd: u32, cell: u16, old: u32) -> u32
 }
 
 // STORE's cells with mod `m`, of a row of words.
-fn store_rows(dst: &mut [u16], a: u16, m: u32, words: &[u32; 32], odds: &[u32; 32], go: &[u32; 128])
+pub(crate) fn store_rows(
+    dst: &mut [u16],
+    a: u16,
+    m: u32,
+    words: &[u32; 32],
+    odds: &[u32; 32],
+    go: &[u32; 128],
+)
     requires { ⌜ (length (now dst) ≡ 16384) × ((a < 1024) × (Rows.Masks 32 (now odds) × Rows.Masks 32 (now go))) ⌝ }
     ensures { λ _. ⌜ now (dst .exit) ≡ withCells a (now (dst .entry)) (StoreRows.storedBy m (now (words .entry)) (now (odds .entry)) (now (go .entry)) (now (dst .entry)) a) ⌝ }
 {
