@@ -32,6 +32,8 @@ use Rattle.claims.proofs.Isolation.{isolation}
 use Rattle.claims.proofs.Instance as Instance
 use Rattle.claims.proofs.Runs as Runs
 use Rattle.claims.proofs.Cut.{cut-run}
+use Rattle.claims.proofs.Walks as Walks
+use Rattle.claims.proofs.WalkInstance as WalkInstance
 use Rattle.claims.proofs.Comparison as Comparison
 use Rattle.claims.proofs.Back.{gives-back}
 use Rattle.claims.proofs.Refusals as Refusals
@@ -136,6 +138,27 @@ pub stored-then-loaded : Claims.StoredThenLoaded
 unfolding Claims.StoredThenLoaded
 stored-then-loaded = gives-back
 
+-- ---- walks
+
+pub walks-are-steps : Claims.WalksAreSteps
+unfolding Claims.WalksAreSteps
+walks-are-steps s image dst list store calls w = Walks.where-it-stands s image dst list store calls w
+
+pub walked-through-is-run : Claims.WalkedThroughIsRun
+unfolding Claims.WalkedThroughIsRun
+walked-through-is-run s image dst list store calls o after stored w all r = Walks.walked-through s image dst list store calls w o after stored all r
+
+pub only-twelve : Claims.OnlyTwelve
+unfolding Claims.OnlyTwelve
+only-twelve s image dst list store calls c answer y w h = Walks.only-twelve s image dst list store calls w c answer y h
+
+pub refused-step-touches-nothing : Claims.RefusedStepTouchesNothing
+unfolding Claims.RefusedStepTouchesNothing
+refused-step-touches-nothing c s list x answer y h n = Walks.stayed s list c x answer y h n
+
+pub walk-over-store : Claims.WalkOverStore
+walk-over-store = WalkInstance.walk-over-store
+
 -- ---- listings
 
 pub refused-reading-touches-nothing : Claims.RefusedReadingTouchesNothing
@@ -179,6 +202,10 @@ runs-coincide s image dst list o p x y u v r q =
 pub lanes-coincide : Claims.LanesCoincide
 unfolding Claims.LanesCoincide
 lanes-coincide s L i own head even odd r q a b = a ∙ sym b
+
+pub steps-coincide : Claims.StepsCoincide
+unfolding Claims.StepsCoincide
+steps-coincide c s list x n k y z a b = (a .answer-is ∙ sym (b .answer-is), a .after-is ∙ sym (b .after-is))
 
 pub readings-coincide : Claims.ReadingsCoincide
 unfolding Claims.ReadingsCoincide

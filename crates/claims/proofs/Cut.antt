@@ -26,7 +26,7 @@ moves : (op cursor chosen : ℕ) → cursor < 1024 → nextCursor op cursor chos
 unfolding nextCursor
 moves op cursor chosen h = pick-lt (meetsDst op) _ cursor 1024 (omega arith) h
 
-cursor-under : (s : Settings) (list : List ℕ) (n : ℕ) (m : Machine) → m .cursor < 1024 → steps s list n m .cursor < 1024
+pub cursor-under : (s : Settings) (list : List ℕ) (n : ℕ) (m : Machine) → m .cursor < 1024 → steps s list n m .cursor < 1024
 unfolding steps stepped
 cursor-under s list zero m h = h
 cursor-under s list (suc n) m h = moves _ (steps s list n m .cursor) _ (cursor-under s list n m h)

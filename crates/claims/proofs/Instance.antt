@@ -34,13 +34,13 @@ use Rattle.claims.proofs.Back.{store-leaves}
 
 -- ---- the images: zeros, and 5 in register 0 of lane 1
 
-abbrev zeros : ℕ → Lane
+abbrev pub zeros : ℕ → Lane
 zeros L s = 0
 
 abbrev five : ℕ → Lane
 five L s = pick (eqb s 0 && eqb L 1) 5 0
 
-zeros-formed : WellFormedImage (ofLanes zeros)
+pub zeros-formed : WellFormedImage (ofLanes zeros)
 zeros-formed = record { long = length-lanes zeros; good = good-lanes zeros (λ L l. refl) }
 
 five-formed : WellFormedImage (ofLanes five)
@@ -115,7 +115,7 @@ each-good (suc (suc (suc j))) l = absurd (none j l)
     none : (j : ℕ) → suc (suc (suc j)) < 3 → ⊥
     none j l = omega arith
 
-good-settings : settingsGood plainly ≡ true
+pub good-settings : settingsGood plainly ≡ true
 unfolding settingsGood
 good-settings = refl
 

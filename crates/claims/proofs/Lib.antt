@@ -3,10 +3,12 @@ pub mod WellFormed
 pub mod Kept
 pub mod Runs
 pub mod Cut
+pub mod Walks
 pub mod Comparison
 pub mod Back
 pub mod Isolation
 pub mod Instance
+pub mod WalkInstance
 pub mod Refusals
 pub mod Ranges
 pub mod Readings

@@ -1,5 +1,5 @@
 -- What a registrar may rely on. Each claim stands under one sentence, with its premises; proofs/Claims.antt proves it by its name. They speak of runs
--- by demand 2's rules (`Ran`, which is what `run` promises: crate runner, specs/Run), of readings and writings (crate listing, specs/Listing), and of
+-- by demand 2's rules (`Ran`, which is what `run` promises: crate runner, specs/Run), of a walk's steps (`Called`, which `forward` and `back` promise: specs/Walk), of readings and writings (crate listing, specs/Listing), and of
 -- one lane's instruction (crate lane, specs/Refusals).
 use Prim.Native.Nat.{ℕ, zero, suc, _+_, _-_, _*_, _/_, _%_, _^_, _<_, _≤_}
 use mathlib.Core.Path.{_≡_}
@@ -13,7 +13,7 @@ use Rattle.lane.specs.declared.Insn.{Insn}
 use Rattle.lane.specs.declared.Order.{Order}
 use Rattle.lane.specs.declared.Order.the-variants.{Below, Equal, Above}
 use Rattle.lane.specs.declared.Stepped.{Stepped}
-use Rattle.lane.specs.Words.{pick, bit, laneConfig, reg, enabled}
+use Rattle.lane.specs.Words.{pick, bit, flagOf, laneConfig, reg, enabled}
 use Rattle.lane.specs.Load.{address, placeOf, bf16}
 use Rattle.lane.specs.Store.{packedBf16, cells}
 use Rattle.lane.specs.Swap.{rank, ranksBelow, compared, outOfOrder}
@@ -21,7 +21,8 @@ use Rattle.lane.specs.Refusals.{laneStep}
 use Rattle.runner.specs.declared.Outcome.{Outcome}
 use Rattle.runner.specs.Image.{laneIn, imageGood}
 use Rattle.runner.specs.Checks.{insnAt, countOf, runAnswer, listAnswer}
-use Rattle.runner.specs.Run.{Machine, steps, finish, tiesOf, noTies, Ran}
+use Rattle.runner.specs.Run.{Machine, steps, begin, finish, tiesOf, noTies, Ran}
+use Rattle.runner.specs.Walk.{Standing, standing, begun, entryWords, entryIn, entryOf, Call, forward, back, moved, Called}
 use Rattle.listing.specs.declared.Reading.{Reading}
 use Rattle.listing.specs.declared.Writing.{Writing}
 use Rattle.listing.specs.declared.Reporting.{Reporting}
@@ -252,6 +253,111 @@ StoredThenLoaded =
     → GivesBack (insnAt list k .md) (insnAt list (suc k) .md) (reg L (laneIn (steps s list k m .image) L) (insnAt list k .vd))
     (laneIn (steps s list (suc (suc k)) m .image) L (insnAt list (suc k) .vd))
 
+-- ---- walks
+
+-- The cells of a Dst have 16 bits, as every cell has.
+unfoldable pub SixteenBits : List ℕ → Type 0
+SixteenBits dst = (p : ℕ) → getD dst p 0 < 2 ^ 16
+
+-- One call of a walk: which it was, what it answered, and where the walk stands then.
+pub record Event : Type 0 where
+  pub call : Call
+  pub answer : ℕ
+  pub after : Standing
+  pub cells : SixteenBits (after .machine .dst)
+
+-- Calls made one after the other from x on, the host changing nothing it lent between them: each did what it promises.
+abbrev pub Made : Settings → List ℕ → Standing → List Event → Type 0
+Made s list x [] = Unit {0}
+Made s list x (e ∷ es) = Called (e .call) s list x (e .answer) (e .after) × Made s list (e .after) es
+
+-- Where the walk stands after them.
+abbrev pub lastOf : Standing → List Event → Standing
+lastOf x [] = x
+lastOf x (e ∷ es) = lastOf (e .after) es
+
+-- How many accepted steps they were, forward or back; a refused call is none.
+abbrev pub stepsOf : Call → Call → ℕ → ℕ
+stepsOf forward forward answer = flagOf (eqb answer 0)
+stepsOf back back answer = flagOf (eqb answer 0)
+stepsOf forward back answer = 0
+stepsOf back forward answer = 0
+
+unfoldable pub accepted : Call → List Event → ℕ
+accepted c [] = 0
+accepted c (e ∷ es) = stepsOf c (e .call) (e .answer) + accepted c es
+
+-- A walk stands k steps from the start m: image, Dst and cursor are those of k forward steps, k is what the walk says, and entry j of the store, for each j
+-- below k, is that of the state after j steps.
+pub record StandsAt (s : Settings) (list : List ℕ) (m : Machine) (k : ℕ) (x : Standing) : Type 0 where
+  pub machine : x .machine ≡ steps s list k m
+  pub done : x .done ≡ k
+  pub within : k ≤ countOf list
+  pub room : entryWords * k ≤ length (x .store)
+  pub entries : (j : ℕ) → j < k → entryIn (x .store) j ≡ entryOf s (insnAt list j) (steps s list j m)
+
+-- The start of a walk over a list.
+abbrev pub startOf : Settings → List ℕ → List ℕ → List ℕ → List ℕ → Standing
+startOf s image dst list store = standing (begun s image dst list .walk) image dst store
+
+-- A walk that began well, and the calls that were made.
+pub record Walked (s : Settings) (image dst list store : List ℕ) (calls : List Event) : Type 0 where
+  pub began : begun s image dst list .answer ≡ 0
+  pub cells : SixteenBits dst
+  pub made : Made s list (startOf s image dst list store) calls
+
+-- After n accepted forward and m accepted back steps, in any order, the host changing nothing it lent between calls, image, Dst and cursor are those of n
+-- minus m forward steps from the start, and back never passes the start.
+unfoldable pub WalksAreSteps : Type 0
+WalksAreSteps =
+    (s : Settings) (image dst list store : List ℕ) (calls : List Event)
+    → Walked s image dst list store calls
+    → (accepted back calls ≤ accepted forward calls)
+    × StandsAt s list (begin s image dst) (accepted forward calls - accepted back calls) (lastOf (startOf s image dst list store) calls)
+
+-- When all of the list was stepped forward, that is the state in which a run ends.
+unfoldable pub WalkedThroughIsRun : Type 0
+WalkedThroughIsRun =
+    (s : Settings) (image dst list store : List ℕ) (calls : List Event) (o : Outcome) (after stored : List ℕ)
+    → Walked s image dst list store calls
+    → accepted forward calls ≡ countOf list + accepted back calls
+    → Ran s image dst list o after stored
+    → lastOf (startOf s image dst list store) calls .machine ≡ record { image = after; dst = stored; cursor = o .cursor }
+
+-- A walk that began well meets no refusal but 12.
+unfoldable pub OnlyTwelve : Type 0
+OnlyTwelve =
+    (s : Settings) (image dst list store : List ℕ) (calls : List Event) (c : Call) (answer : ℕ) (y : Standing)
+    → Walked s image dst list store calls
+    → Called c s list (lastOf (startOf s image dst list store) calls) answer y
+    → (answer ≡ 0) ⊎ (answer ≡ 12)
+
+-- A refused step changes nothing: image, Dst, cursor, the steps done and the store.
+unfoldable pub RefusedStepTouchesNothing : Type 0
+RefusedStepTouchesNothing =
+    (c : Call) (s : Settings) (list : List ℕ) (x : Standing) (answer : ℕ) (y : Standing)
+    → Called c s list x answer y
+    → (answer ≡ 0 → ⊥)
+    → y ≡ x
+
+-- There is a walk that these speak of: forward over a STORE, which changes Dst; back, to the start; and back once more, which is refused.
+pub record WalkOverStore : Type 0 where
+  pub settings : Settings
+  pub image : List ℕ
+  pub dst : List ℕ
+  pub list : List ℕ
+  pub store : List ℕ
+  pub over : Event
+  pub returned : Event
+  pub refused : Event
+  pub walked : Walked settings image dst list store (over ∷ returned ∷ refused ∷ [])
+  pub is-store : insnAt list 0 .op ≡ 16
+  pub went-over : (over .call ≡ forward) × (over .answer ≡ 0)
+  pub went-back : (returned .call ≡ back) × (returned .answer ≡ 0)
+  pub stayed : (refused .call ≡ back) × (refused .answer ≡ 12)
+  pub changed : over .after .machine .dst ≡ dst → ⊥
+  pub restored : returned .after .machine ≡ begin settings image dst
+
 -- ---- listings
 
 -- A refused reading returns length 0, and touches no word of the lent room;
@@ -340,6 +446,14 @@ LanesCoincide =
     → r ≡ laneStep s L i own head even odd
     → r′ ≡ laneStep s L i own head even odd
     → r ≡ r′
+
+-- of a walk's steps,
+unfoldable pub StepsCoincide : Type 0
+StepsCoincide =
+    (c : Call) (s : Settings) (list : List ℕ) (x : Standing) (answer answer′ : ℕ) (y y′ : Standing)
+    → Called c s list x answer y
+    → Called c s list x answer′ y′
+    → (answer ≡ answer′) × (y ≡ y′)
 
 -- of `read`,
 unfoldable pub ReadingsCoincide : Type 0

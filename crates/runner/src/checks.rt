@@ -129,7 +129,7 @@ fn plain(i: Insn) -> bool
 }
 
 // 7, 8, 9 or 0 for an instruction. All but the refused are plainly good, and that is quickly seen.
-pub(crate) fn answer_of(i: Insn) -> u32
+fn answer_of(i: Insn) -> u32
     ensures { λ r. ⌜ r ≡ instructionAnswer true i ⌝ }
 {
     if plain(i) {

@@ -1,5 +1,4 @@
 // A walk over a list: one instruction at a time, each with its entry in a lent store, and back.
-use crate::checks::answer_of;
 use crate::checks::first_answer;
 use crate::checks::run_answer;
 use crate::insn_at;
@@ -11,6 +10,7 @@ use crate::store::store_rows;
 use lane::Insn;
 use lane::Settings;
 use lane::load::address;
+use lane::refuse::instruction_answer;
 ghost use mathlib.Core.Path.{_≡_};
 ghost use Prim.Native.Nat.{_+_, _*_, _^_, _<_, _≤_};
 ghost use lib.ListN.{length};
@@ -77,7 +77,7 @@ fn next_answer(at: usize, list: &[u32], size: usize) -> u32
 {
     if at < list.len() / 6 {
         if ENTRY * at + ENTRY <= size {
-            return answer_of(insn_at(list, at));
+            return instruction_answer(true, insn_at(list, at));
         }
         return 12;
     }
