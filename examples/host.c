@@ -1,4 +1,4 @@
-/* A host in C: runs three lists and looks at registers and ties. examples/build-host builds and runs it. */
+/* A host in C: runs three lists, looks at registers and ties, and walks over a list and back. examples/build-host builds and runs it. */
 #include "replay.h"
 #include "replay_text.h"
 
@@ -46,6 +46,21 @@ static void run(const uint32_t settings[8], const uint32_t *words, size_t len)
     printf("\n");
 }
 
+/* Lane 31 of register 2 at each step over the list `sum`, to its end and back to its start. */
+static void walk_over(const uint32_t settings[8])
+{
+    static uint32_t store[REPLAY_ENTRY * 3];    /* an entry for each of its instructions */
+    const size_t len = sizeof sum / sizeof *sum, room = sizeof store / sizeof *store;
+    const uint32_t *word = image + REPLAY_AT_REGISTER_2 + 31;
+    uint32_t outcome[4], walk[2];
+    if (replay_begin(settings, image, REPLAY_IMAGE, dst, REPLAY_DST, sum, len, outcome, walk) != REPLAY_DONE) return;
+    printf("a walk at %u: %08X\n", (unsigned)walk[REPLAY_WALK_AT], (unsigned)*word);
+    while (replay_forward(settings, image, REPLAY_IMAGE, dst, REPLAY_DST, sum, len, store, room, walk) == REPLAY_DONE)
+        printf("forward to %u: %08X\n", (unsigned)walk[REPLAY_WALK_AT], (unsigned)*word);
+    while (replay_back(settings, image, REPLAY_IMAGE, dst, REPLAY_DST, sum, len, store, room, walk) == REPLAY_DONE)
+        printf("back to %u: %08X\n", (unsigned)walk[REPLAY_WALK_AT], (unsigned)*word);
+}
+
 int main(void)
 {
     uint32_t settings[8], outcome[5];
@@ -70,5 +85,7 @@ int main(void)
     static const uint32_t faulty[] = {REPLAY_OP_LOADI, 7, 0, 0, 1, 10, 17, 0, 0, 0, 0, 0};
     run(settings, faulty, sizeof faulty / sizeof *faulty);
     show(1);
+
+    walk_over(settings);
     return 0;
 }

@@ -2,11 +2,11 @@
  *
  * Everything is lent by the caller. The library keeps nothing between calls, allocates nothing, and writes only to what is passed without
  * `const`. Parts lent to one call must not overlap. Calls that share nothing writable, no Dst either, may run at the same time. On the
- * stack, running takes some 2 KB, reading 26, writing 48 and a report 90.
+ * stack, running and walking take some 2 KB, reading 26, writing 48 and a report 90.
  *
  * Pointers. A length counts elements, not bytes. A part that comes with a length may be NULL where that length is 0, as the data() of an
- * empty std::vector often is: nothing is read or written through it. Every other pointer (settings, outcome, insn, own, head, cells,
- * length) has no length and is never NULL.
+ * empty std::vector often is: nothing is read or written through it. Every other pointer (settings, outcome, walk, insn, own, head,
+ * cells, length) has no length and is never NULL.
  *
  * Each function but the last three returns the answer: REPLAY_DONE if all was done, else the number of the refusal. */
 #ifndef REPLAY_H
@@ -21,11 +21,13 @@ extern "C" {
 
 /* What is replayed: 1000 is document 01 by itself, and 1000 plus n is with the requests up to M-n. A later request may change what a word
  * means, so a host that loads the library at run time compares this with replay_version(). */
-#define REPLAY_VERSION 1102
+#define REPLAY_VERSION 1103
 
-/* The words of an image, the cells of a Dst, the words of the longest list, and the bytes of the longest listing and report. */
+/* The words of an image, the cells of a Dst, the words of a walk's entry and of the longest list, and the bytes of the longest listing and
+ * report. */
 #define REPLAY_IMAGE 768
 #define REPLAY_DST 16384
+#define REPLAY_ENTRY 802
 #define REPLAY_LIST 6144
 #define REPLAY_TEXT 46184
 #define REPLAY_REPORT 11188
@@ -47,7 +49,8 @@ enum replay_answer {
     REPLAY_BAD_FIELD = 8,               /* a field outside its range, an unused field not 0, or mod not allowed */
     REPLAY_BAD_LOAD_MOD = 9,            /* LOAD mod 3, 4, 10 or 12 */
     REPLAY_BAD_TEXT = 10,               /* listing text faulty */
-    REPLAY_TOO_LONG = 11                /* listing over 65,536 bytes, or lent room too short */
+    REPLAY_TOO_LONG = 11,               /* listing over 65,536 bytes, or lent room too short */
+    REPLAY_NO_STEP = 12                 /* step forward from the end or with fewer than 802 free words in the store, or back from the start */
 };
 
 enum replay_op {
@@ -91,7 +94,7 @@ enum replay_setting {
     REPLAY_SETTING_STRIDE3 = 7
 };
 
-/* The words of an outcome: a run's are 12, reading's and writing's 5. */
+/* The words of an outcome: a run's are 12, reading's and writing's 5, and those of a walk's start 4. */
 enum replay_outcome {
     REPLAY_OUTCOME_ANSWER = 0,
     REPLAY_OUTCOME_STEPS = 1,
@@ -129,6 +132,20 @@ enum replay_at {
     REPLAY_AT_MISC = 736                /* each below 2^12 */
 };
 
+/* The two words of a walk. */
+enum replay_walk {
+    REPLAY_WALK_AT = 0,                 /* how many steps are done, which is also the index of the instruction that comes next */
+    REPLAY_WALK_CURSOR = 1
+};
+
+/* Where each part of an entry begins. Entry k of a store begins at word REPLAY_ENTRY * k, and has what there was before instruction k. */
+enum replay_entry {
+    REPLAY_ENTRY_IMAGE = 0,             /* 768 words, by enum replay_at */
+    REPLAY_ENTRY_CURSOR = 768,
+    REPLAY_ENTRY_ADDRESS = 769,         /* the instruction's, 0 to 1023 */
+    REPLAY_ENTRY_CELLS = 770            /* of a STORE, the 32 cells that it could overwrite, lane 0 first; of another op, zeros */
+};
+
 /* Runs a list over an image and a Dst.
  *
  *   settings  by enum replay_setting
@@ -145,6 +162,41 @@ enum replay_at {
  * else 0, and all eight ties are 0. */
 uint32_t replay_run(const uint32_t settings[8], uint32_t *image, size_t image_len, uint16_t *dst, size_t dst_len,
                     const uint32_t *list, size_t list_len, uint32_t outcome[12]);
+
+/* Begins a walk: a list run one instruction at a time, forward and back, so that a host sees image and Dst in between.
+ *
+ *   settings, image, dst, list  as for a run, and only read
+ *   outcome   answer, steps, place, cursor
+ *   walk      becomes where the walk stands, by enum replay_walk
+ *
+ * Done: the walk is at 0, with the cursor given, which is also the outcome's; steps and place are 0.
+ * Refused, by 1 to 9 as a run is: `walk` is untouched, and the outcome is the run's but for the ties. */
+uint32_t replay_begin(const uint32_t settings[8], const uint32_t *image, size_t image_len, const uint16_t *dst, size_t dst_len,
+                      const uint32_t *list, size_t list_len, uint32_t outcome[4], uint32_t walk[2]);
+
+/* A step of a walk: forward, over the instruction that comes next, or back, over the last one.
+ *
+ *   settings, list    as replay_begin was lent them; the cursor is the walk's from then on
+ *   image, dst, walk  as the call before left them
+ *   store             room for the entries: REPLAY_ENTRY words an instruction are always enough, 821,248 for the longest list
+ *
+ * Done, forward: image and Dst are those after instruction `at`, whose entry is in the store, and the other words of the store stay; the walk
+ * is at `at` + 1, with the new cursor.
+ * Done, back: image, cursor and, if instruction `at` - 1 is a STORE, the 32 cells are those of entry `at` - 1, and the walk is at `at` - 1.
+ * The store's words stay; the next step forward uses that entry's room again.
+ * Refused: image, Dst, store and walk are untouched. 1 to 6 are tried first, as of a run, and 3 is also for a walk's cursor above 1023. Then
+ * 12 is for a step forward if `at` is not below the number of instructions, or the store has fewer than REPLAY_ENTRY * (`at` + 1) words; and
+ * for a step back if `at` is 0 or above the number of instructions, or the store has fewer than REPLAY_ENTRY * `at` words. Then come 7 to 9,
+ * of instruction `at`, for a step forward.
+ *
+ * After n steps forward and m back that were done, in any order, image, Dst and cursor are those of n - m steps forward, and no refusal is
+ * met but 12, if the walk began well and the host changes nothing that it lent between calls. An entry that it changed is taken as it stands,
+ * image and cursor as they are (the step after it refuses by 6 or 3 what can't be), the address mod 1024 and a cell mod 65,536. Steps count
+ * no ties. */
+uint32_t replay_forward(const uint32_t settings[8], uint32_t *image, size_t image_len, uint16_t *dst, size_t dst_len,
+                        const uint32_t *list, size_t list_len, uint32_t *store, size_t store_len, uint32_t walk[2]);
+uint32_t replay_back(const uint32_t settings[8], uint32_t *image, size_t image_len, uint16_t *dst, size_t dst_len,
+                     const uint32_t *list, size_t list_len, uint32_t *store, size_t store_len, uint32_t walk[2]);
 
 /* One instruction in one lane.
  *

@@ -44,6 +44,7 @@ static inline const char *replay_refusal_text(uint32_t answer)
     case REPLAY_BAD_LOAD_MOD: return "LOAD mod 3, 4, 10 or 12";
     case REPLAY_BAD_TEXT: return "listing text faulty";
     case REPLAY_TOO_LONG: return "listing over 65,536 bytes, or lent room too short";
+    case REPLAY_NO_STEP: return "step forward from the end or with fewer than 802 free words in the store, or back from the start";
     default: return "unknown";
     }
 }

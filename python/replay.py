@@ -7,6 +7,11 @@ Words are array('I'), cells array('H'), texts bytes. An image and a Dst are chan
     outcome = run(settings, state, cells, words)
     print(outcome.text, register(state, 0), cells[:16], outcome.ties)
 
+A walk runs a list one instruction at a time, forward and back:
+
+    walk, outcome = begin(settings, image(), dst(), words)
+    print(walk.forward(), walk.at, register(walk.image, 0), walk.back(), walk.at)
+
 The library is REPLAY_LIBRARY where that is set, else the one of the prefix or the repository that this file is in. It is for x86-64.
 """
 
@@ -15,8 +20,8 @@ import os
 from array import array
 from dataclasses import astuple, dataclass
 
-VERSION = 1102
-IMAGE, DST, LIST, TEXT, REPORT, LANES, COLUMNS = 768, 16384, 6144, 46184, 11188, 32, 8
+VERSION = 1103
+IMAGE, DST, ENTRY, LIST, TEXT, REPORT, LANES, COLUMNS = 768, 16384, 802, 6144, 46184, 11188, 32, 8
 
 # The ops by number, and the answers in the clerk's words.
 OPS = (None, "LOAD", "LOADI", "LUT", "SWAP", "CONFIG", "IADD", "ABS", "AND", "OR", "XOR", "NOT", "LZ", "EXEXP", "EXMAN", "NOP", "STORE")
@@ -33,6 +38,7 @@ ANSWERS = (
     "LOAD mod 3, 4, 10 or 12",
     "listing text faulty",
     "listing over 65,536 bytes, or lent room too short",
+    "step forward from the end or with fewer than 802 free words in the store, or back from the start",
 )
 
 
@@ -68,6 +74,34 @@ class Outcome:
         return ANSWERS[self.answer]
 
 
+class Walk:
+    """Where a walk stands, and what it is over; `begin` makes it. A step changes image, Dst and store in place, and returns the answer."""
+
+    def __init__(self, settings, image, dst, words, store, walk):
+        self.settings, self.image, self.dst, self.words, self.store, self._walk = settings, image, dst, words, store, walk
+
+    @property
+    def at(self):
+        """How many steps are done, which is also the index of the instruction that comes next."""
+        return self._walk[0]
+
+    @property
+    def cursor(self):
+        return self._walk[1]
+
+    def forward(self):
+        """A step over the next instruction, whose entry is kept in the store."""
+        return self._step(_library.replay_forward)
+
+    def back(self):
+        """A step back over the last instruction, by its entry."""
+        return self._step(_library.replay_back)
+
+    def _step(self, function):
+        parts = *_part(self.image, "I"), *_part(self.dst, "H"), *_part(self.words, "I"), *_part(self.store, "I")
+        return function(_settings(self.settings), *parts, _fixed(self._walk, 2))
+
+
 def image():
     """An image of zeros."""
     return array("I", [0]) * IMAGE
@@ -83,6 +117,19 @@ def run(settings, image, dst, words):
     words, outcome = array("I", words), _zeros(12)
     _library.replay_run(_settings(settings), *_part(image, "I"), *_part(dst, "H"), *_part(words, "I"), _fixed(outcome, 12))
     return Outcome(*outcome[:4], ties=tuple(outcome[4:]))
+
+
+def begin(settings, image, dst, words, store=None):
+    """A walk over a list, None where it is refused, and the outcome. Where no store is lent, the walk has one with room for the whole list."""
+    words, outcome, walk = array("I", words), _zeros(4), _zeros(2)
+    parts = *_part(image, "I"), *_part(dst, "H"), *_part(words, "I")
+    _library.replay_begin(_settings(settings), *parts, _fixed(outcome, 4), _fixed(walk, 2))
+    outcome = Outcome(*outcome)
+    if not outcome.done:
+        return None, outcome
+    if store is None:
+        store = _zeros(len(words) // 6 * ENTRY)
+    return Walk(settings, image, dst, words, store, walk), outcome
 
 
 def lane(settings, lane, insn, own, head, cells):
@@ -176,6 +223,9 @@ def _load(path):
     pointer, size, word = ctypes.c_void_p, ctypes.c_size_t, ctypes.c_uint32
     for name, result, arguments in (
         ("replay_run", word, [pointer, pointer, size, pointer, size, pointer, size, pointer]),
+        ("replay_begin", word, [pointer, pointer, size, pointer, size, pointer, size, pointer, pointer]),
+        ("replay_forward", word, [pointer, pointer, size, pointer, size, pointer, size, pointer, size, pointer]),
+        ("replay_back", word, [pointer, pointer, size, pointer, size, pointer, size, pointer, size, pointer]),
         ("replay_lane", word, [pointer, word, pointer, pointer, pointer, pointer]),
         ("replay_read", word, [ctypes.c_char_p, size, pointer, size, pointer, pointer]),
         ("replay_write", word, [pointer, pointer, size, pointer, size, pointer]),

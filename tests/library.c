@@ -8,10 +8,10 @@
 #include <stdlib.h>
 #include <string.h>
 
-enum { LAST_OP = REPLAY_OP_STORE };
+enum { LAST_OP = REPLAY_OP_STORE, LAST_ANSWER = REPLAY_NO_STEP, LONGEST = REPLAY_LIST / 6 };
 
-/* The outcome has room for a run's; reading and writing take the first five words. */
-static uint32_t image[REPLAY_IMAGE], list[REPLAY_LIST], settings[8], outcome[12];
+/* The outcome has room for a run's; reading and writing take the first five words, and the start of a walk the first four. */
+static uint32_t image[REPLAY_IMAGE], list[REPLAY_LIST], settings[8], outcome[12], walk[2], entries[REPLAY_ENTRY * LONGEST];
 static uint16_t dst[REPLAY_DST];
 static uint8_t text[REPLAY_TEXT], room[REPLAY_REPORT + 1];
 static int failures;
@@ -94,6 +94,8 @@ static void answers(void)
     expect(replay_read((const uint8_t *)"\n", 1, list, REPLAY_LIST, settings, outcome) == REPLAY_BAD_TEXT, "text", 10);
     start();
     expect(replay_write(settings, nops, 6, text, 10, outcome) == REPLAY_TOO_LONG, "room", 11);
+    expect(replay_begin(settings, image, REPLAY_IMAGE, dst, REPLAY_DST, nops, 6, outcome, walk) == REPLAY_DONE, "begun", 0);
+    expect(replay_back(settings, image, REPLAY_IMAGE, dst, REPLAY_DST, nops, 6, entries, REPLAY_ENTRY, walk) == REPLAY_NO_STEP, "step", 12);
     settings[REPLAY_SETTING_EDITION] = 3;
     expect(run_one(REPLAY_OP_NOP, 0, 0, 0, 0) == REPLAY_BAD_SETTING, "setting", 3);
 }
@@ -240,6 +242,296 @@ static void ties(void)
     expect_ties(none, "no ties without a list");
 }
 
+/* A list in which each instruction changes something, with STOREs of every mod: to even and odd cells, some of them twice, before and after
+ * LaneConfig chooses others. Walks over it set out from an image and a Dst that are not 0, and lane 12 is not enabled. */
+static const uint32_t tour[] = {
+    REPLAY_OP_STORE, 0, 1, 0, 0, 7,     REPLAY_OP_STORE, 0, 2, 0, 15, 6,    REPLAY_OP_STORE, 0, 0, 0, 1, 9,
+    REPLAY_OP_LOADI, 77, 0, 0, 2, 10,   REPLAY_OP_SWAP, 0, 0, 1, 2, 1,      REPLAY_OP_STORE, 2, 1, 0, 2, 2,
+    REPLAY_OP_CONFIG, 32, 0, 0, 15, 1,  REPLAY_OP_STORE, 1020, 3, 0, 4, 7,  REPLAY_OP_LOAD, 4, 2, 0, 5, 6,
+    REPLAY_OP_IADD, 0, 0, 5, 6, 0,      REPLAY_OP_STORE, 0, 3, 0, 6, 9,
+};
+enum { TOUR = sizeof tour / sizeof *tour };
+
+struct machine {
+    uint32_t image[REPLAY_IMAGE];
+    uint16_t dst[REPLAY_DST];
+};
+static struct machine origin, before;
+
+static void keep(struct machine *m)
+{
+    memcpy(m->image, image, sizeof image);
+    memcpy(m->dst, dst, sizeof dst);
+}
+
+static int same_image(const struct machine *m) { return memcmp(image, m->image, sizeof image) == 0; }
+static int same_dst(const struct machine *m) { return memcmp(dst, m->dst, sizeof dst) == 0; }
+
+static void set_out(const uint32_t *words, size_t len)
+{
+    start();
+    for (unsigned i = 0; i < REPLAY_AT_LANE_CONFIG; i++) image[i] = 0x9E3779B9u * (i + 1);
+    for (unsigned i = 0; i < REPLAY_DST; i++) dst[i] = (uint16_t)(0x9E37u * (i + 1));
+    image[REPLAY_AT_LANE_CONFIG + 3] = 1u << 5;
+    image[REPLAY_AT_USE_FLAGS + 12] = 1;
+    settings[REPLAY_SETTING_OFFSET] = 1000;
+    settings[REPLAY_SETTING_CURSOR] = 21;
+    settings[REPLAY_SETTING_STRIDE1] = 4;
+    settings[REPLAY_SETTING_STRIDE2] = 1020;
+    settings[REPLAY_SETTING_STRIDE3] = 1;
+    keep(&origin);
+    memset(entries, 0xA5, sizeof entries);
+    poison();
+    expect(replay_begin(settings, image, REPLAY_IMAGE, dst, REPLAY_DST, words, len, outcome, walk) == REPLAY_DONE, "begun", 0);
+}
+
+static uint32_t forward(const uint32_t *words, size_t len, size_t size)
+{
+    return replay_forward(settings, image, REPLAY_IMAGE, dst, REPLAY_DST, words, len, entries, size, walk);
+}
+
+static uint32_t back(const uint32_t *words, size_t len, size_t size)
+{
+    return replay_back(settings, image, REPLAY_IMAGE, dst, REPLAY_DST, words, len, entries, size, walk);
+}
+
+/* The walk is at k, and image, Dst and cursor are those of a run of the first k instructions. */
+static void stands(const uint32_t *words, unsigned k)
+{
+    static struct machine run;
+    run = origin;
+    expect(replay_run(settings, run.image, REPLAY_IMAGE, run.dst, REPLAY_DST, words, 6 * k, outcome) == REPLAY_DONE, "run so far", k);
+    expect(same_image(&run), "the image is the run's", k);
+    expect(same_dst(&run), "Dst is the run's", k);
+    expect(walk[REPLAY_WALK_AT] == k && walk[REPLAY_WALK_CURSOR] == outcome[REPLAY_OUTCOME_CURSOR], "the walk is there, with the run's cursor", k);
+}
+
+static void refused_begin(const uint32_t *words, size_t image_len, size_t dst_len, size_t list_len, uint32_t answer)
+{
+    uint32_t begun[4];
+    poison();
+    walk[REPLAY_WALK_AT] = 7;
+    walk[REPLAY_WALK_CURSOR] = 9;
+    expect(replay_begin(settings, image, image_len, dst, dst_len, words, list_len, outcome, walk) == answer, "refused", answer);
+    expect(walk[REPLAY_WALK_AT] == 7 && walk[REPLAY_WALK_CURSOR] == 9, "the walk is as it was", answer);
+    expect(untouched(REPLAY_OUTCOME_CURSOR + 1), "four words of a walk's start", answer);
+    memcpy(begun, outcome, sizeof begun);
+    expect(replay_run(settings, image, image_len, dst, dst_len, words, list_len, outcome) == answer, "and so is a run", answer);
+    expect(memcmp(begun, outcome, sizeof begun) == 0, "with the same outcome", answer);
+}
+
+/* A walk begins at 0 with the given cursor, changes nothing, and is refused as a run is. */
+static void begins(void)
+{
+    static uint32_t words[REPLAY_LIST + 6];
+    memcpy(words, tour, sizeof tour);
+    set_out(words, TOUR);
+    expect(outcome[REPLAY_OUTCOME_ANSWER] == 0 && outcome[REPLAY_OUTCOME_STEPS] == 0 && outcome[REPLAY_OUTCOME_PLACE] == 0 &&
+           outcome[REPLAY_OUTCOME_CURSOR] == 21 && untouched(REPLAY_OUTCOME_CURSOR + 1), "the outcome of a walk's start", 0);
+    expect(walk[REPLAY_WALK_AT] == 0 && walk[REPLAY_WALK_CURSOR] == 21, "where it stands", 0);
+    refused_begin(words, REPLAY_IMAGE - 1, REPLAY_DST, TOUR, REPLAY_BAD_IMAGE_LENGTH);
+    refused_begin(words, REPLAY_IMAGE, REPLAY_DST - 1, TOUR, REPLAY_BAD_DST_LENGTH);
+    refused_begin(words, REPLAY_IMAGE, REPLAY_DST, TOUR - 1, REPLAY_BAD_LIST_LENGTH);
+    refused_begin(words, REPLAY_IMAGE, REPLAY_DST, REPLAY_LIST + 6, REPLAY_TOO_MANY);
+    words[TOUR - 6 + REPLAY_INSN_OP] = LAST_OP + 1;
+    refused_begin(words, REPLAY_IMAGE, REPLAY_DST, TOUR, REPLAY_UNKNOWN_OP);
+    words[TOUR - 6 + REPLAY_INSN_OP] = REPLAY_OP_NOP;
+    refused_begin(words, REPLAY_IMAGE, REPLAY_DST, TOUR, REPLAY_BAD_FIELD);
+    words[TOUR - 6 + REPLAY_INSN_OP] = REPLAY_OP_LOAD;
+    words[TOUR - 6 + REPLAY_INSN_MOD] = 12;
+    refused_begin(words, REPLAY_IMAGE, REPLAY_DST, TOUR, REPLAY_BAD_LOAD_MOD);
+    expect(same_image(&origin) && same_dst(&origin), "image and Dst are as they were", 0);
+    image[REPLAY_AT_LANE_FLAGS] = 2;
+    refused_begin(words, REPLAY_IMAGE, REPLAY_DST, TOUR, REPLAY_BAD_IMAGE);
+    settings[REPLAY_SETTING_CURSOR] = 1024;
+    refused_begin(words, REPLAY_IMAGE, REPLAY_DST, TOUR, REPLAY_BAD_SETTING);
+}
+
+/* To the end and back to the start, and then to and fro: wherever a walk stands, it is as if a run had come there. */
+static void walks(void)
+{
+    const unsigned count = TOUR / 6;
+    unsigned at = 0;
+    set_out(tour, TOUR);
+    stands(tour, 0);
+    for (unsigned k = 0; k < count; k++) {
+        keep(&before);
+        expect(forward(tour, TOUR, REPLAY_ENTRY * count) == REPLAY_DONE, "forward", k);
+        expect(!same_image(&before) || !same_dst(&before), "something changes", k);
+        expect(same_dst(&before) == (tour[6 * k] != REPLAY_OP_STORE), "Dst by each STORE and nothing else", k);
+        stands(tour, k + 1);
+    }
+    expect(forward(tour, TOUR, sizeof entries / sizeof *entries) == REPLAY_NO_STEP, "forward from the end", 0);
+    stands(tour, count);
+    for (unsigned k = count; k-- > 0; ) {
+        expect(back(tour, TOUR, REPLAY_ENTRY * count) == REPLAY_DONE, "back", k);
+        stands(tour, k);
+    }
+    expect(back(tour, TOUR, REPLAY_ENTRY * count) == REPLAY_NO_STEP, "back from the start", 0);
+    stands(tour, 0);
+    for (const char *step = "ffbfbbbbffffbbffffbfffffbfffbbbbbfffbbbbbbbbbbff"; *step; step++) {
+        int on = *step == 'f';
+        uint32_t answer = at == (on ? count : 0) ? REPLAY_NO_STEP : REPLAY_DONE;
+        expect((on ? forward : back)(tour, TOUR, REPLAY_ENTRY * count) == answer, "to and fro", at);
+        if (answer == REPLAY_DONE) at = on ? at + 1 : at - 1;
+        stands(tour, at);
+    }
+}
+
+/* Where a lane's cell lies, of the two the one that bit 1 of the address or bit 5 of row 0's LaneConfig chooses. */
+static unsigned cell_of(const uint32_t *words, uint32_t address, unsigned lane_at)
+{
+    uint32_t odd = (address >> 1 | words[REPLAY_AT_LANE_CONFIG + lane_at % REPLAY_COLUMNS] >> 5) & 1;
+    return (unsigned)(address / 4 * 64 + lane_at / REPLAY_COLUMNS * 16 + lane_at % REPLAY_COLUMNS * 2 + odd);
+}
+
+static void expect_entry(unsigned k, uint32_t cursor)
+{
+    const uint32_t *entry = entries + REPLAY_ENTRY * k, *insn = tour + 6 * k;
+    uint32_t address = (insn[REPLAY_INSN_IMM] + settings[REPLAY_SETTING_OFFSET] + cursor) % 1024;
+    expect(memcmp(entry + REPLAY_ENTRY_IMAGE, before.image, sizeof image) == 0, "the image before it", k);
+    expect(entry[REPLAY_ENTRY_CURSOR] == cursor, "the cursor before it", k);
+    expect(entry[REPLAY_ENTRY_ADDRESS] == address, "its address", k);
+    for (unsigned lane_at = 0; lane_at < REPLAY_LANES; lane_at++) {
+        uint32_t cell = insn[REPLAY_INSN_OP] == REPLAY_OP_STORE ? before.dst[cell_of(before.image, address, lane_at)] : 0;
+        expect(entry[REPLAY_ENTRY_CELLS + lane_at] == cell, "the cells before it", 100 * k + lane_at);
+    }
+}
+
+/* An entry's parts are where the header says, and the words past it stay; its words are taken as they stand. */
+static void kept(void)
+{
+    static uint32_t earlier[REPLAY_ENTRY * TOUR / 6];
+    set_out(tour, TOUR);
+    for (unsigned k = 0; k < TOUR / 6; k++) {
+        uint32_t cursor = walk[REPLAY_WALK_CURSOR];
+        keep(&before);
+        memcpy(earlier, entries, sizeof earlier);
+        expect(forward(tour, TOUR, REPLAY_ENTRY * (k + 1)) == REPLAY_DONE, "room for it", k);
+        expect_entry(k, cursor);
+        expect(memcmp(earlier, entries, REPLAY_ENTRY * k * sizeof *entries) == 0, "the entries before it stay", k);
+        for (unsigned i = REPLAY_ENTRY * (k + 1); i <= REPLAY_ENTRY * TOUR / 6; i++) expect(entries[i] == 0xA5A5A5A5, "and the words past it", i);
+    }
+    memcpy(earlier, entries, sizeof earlier);
+    while (back(tour, TOUR, REPLAY_ENTRY * walk[REPLAY_WALK_AT]) == REPLAY_DONE) continue;
+    stands(tour, 0);
+    expect(memcmp(earlier, entries, sizeof earlier) == 0, "a step back leaves the store", 0);
+
+    forward(tour, TOUR, REPLAY_ENTRY);
+    entries[REPLAY_ENTRY_ADDRESS] += 7 * 1024;
+    for (unsigned lane_at = 0; lane_at < REPLAY_LANES; lane_at++) entries[REPLAY_ENTRY_CELLS + lane_at] += lane_at << 16;
+    expect(back(tour, TOUR, REPLAY_ENTRY) == REPLAY_DONE, "an address and cells that are too large", 0);
+    stands(tour, 0);
+    forward(tour, TOUR, REPLAY_ENTRY);
+    entries[REPLAY_ENTRY_CURSOR] = 1024;
+    expect(back(tour, TOUR, REPLAY_ENTRY) == REPLAY_DONE && walk[REPLAY_WALK_CURSOR] == 1024, "no cursor", walk[REPLAY_WALK_CURSOR]);
+    expect(forward(tour, TOUR, REPLAY_ENTRY) == REPLAY_BAD_SETTING, "is seen by the step after it", 3);
+    walk[REPLAY_WALK_CURSOR] = 21;
+    forward(tour, TOUR, REPLAY_ENTRY);
+    entries[REPLAY_ENTRY_IMAGE + REPLAY_AT_MISC] = 1u << 12;
+    expect(back(tour, TOUR, REPLAY_ENTRY) == REPLAY_DONE && image[REPLAY_AT_MISC] == 1u << 12, "no image", image[REPLAY_AT_MISC]);
+    expect(forward(tour, TOUR, REPLAY_ENTRY) == REPLAY_BAD_IMAGE, "is seen by the step after it", 6);
+}
+
+typedef uint32_t step(const uint32_t *, uint32_t *, size_t, uint16_t *, size_t, const uint32_t *, size_t, uint32_t *, size_t, uint32_t *);
+static step *const steps[2] = {replay_forward, replay_back};
+
+static void refused_step(step *one, const uint32_t *words, size_t image_len, size_t dst_len, size_t list_len, size_t size, uint32_t answer)
+{
+    static uint32_t stored[sizeof entries / sizeof *entries];
+    uint32_t stood[2];
+    keep(&before);
+    memcpy(stored, entries, sizeof entries);
+    memcpy(stood, walk, sizeof walk);
+    expect(one(settings, image, image_len, dst, dst_len, words, list_len, entries, size, walk) == answer, "refused", answer);
+    expect(same_image(&before), "the image is as it was", answer);
+    expect(same_dst(&before), "Dst is as it was", answer);
+    expect(memcmp(entries, stored, sizeof entries) == 0, "the store is as it was", answer);
+    expect(memcmp(walk, stood, sizeof walk) == 0, "the walk is as it was", answer);
+}
+
+static void refused_both(const uint32_t *words, size_t image_len, size_t dst_len, size_t list_len, size_t size, uint32_t answer)
+{
+    for (unsigned i = 0; i < 2; i++) refused_step(steps[i], words, image_len, dst_len, list_len, size, answer);
+}
+
+/* A step that is refused changes nothing that it is lent: by 1 to 6, then 12, then 7 to 9, in a walk of which one step is done. */
+static void refused_steps(void)
+{
+    static uint32_t words[REPLAY_LIST + 6];
+    const size_t all = REPLAY_ENTRY * TOUR / 6;
+    memcpy(words, tour, sizeof tour);
+    set_out(words, TOUR);
+    expect(forward(words, TOUR, all) == REPLAY_DONE, "a step", 0);
+    refused_both(words, REPLAY_IMAGE - 1, REPLAY_DST, TOUR, all, REPLAY_BAD_IMAGE_LENGTH);
+    refused_both(words, REPLAY_IMAGE, REPLAY_DST - 1, TOUR, all, REPLAY_BAD_DST_LENGTH);
+    refused_both(words, REPLAY_IMAGE, REPLAY_DST, TOUR + 1, all, REPLAY_BAD_LIST_LENGTH);
+    refused_both(words, REPLAY_IMAGE, REPLAY_DST, REPLAY_LIST + 6, all, REPLAY_TOO_MANY);
+    settings[REPLAY_SETTING_CURSOR] = 1024;
+    refused_both(words, REPLAY_IMAGE, REPLAY_DST, TOUR, all, REPLAY_BAD_SETTING);
+    settings[REPLAY_SETTING_CURSOR] = 21;
+    walk[REPLAY_WALK_CURSOR] += 1024;
+    refused_both(words, REPLAY_IMAGE, REPLAY_DST, TOUR - 1, all, REPLAY_BAD_SETTING);
+    walk[REPLAY_WALK_CURSOR] -= 1024;
+    image[REPLAY_AT_LANE_CONFIG + 31] = 1u << 18;
+    refused_both(words, REPLAY_IMAGE, REPLAY_DST, TOUR, 0, REPLAY_BAD_IMAGE);
+    image[REPLAY_AT_LANE_CONFIG + 31] = 0;
+
+    refused_step(replay_forward, words, REPLAY_IMAGE, REPLAY_DST, TOUR, 2 * REPLAY_ENTRY - 1, REPLAY_NO_STEP);
+    refused_step(replay_back, words, REPLAY_IMAGE, REPLAY_DST, TOUR, REPLAY_ENTRY - 1, REPLAY_NO_STEP);
+    refused_step(replay_forward, words, REPLAY_IMAGE, REPLAY_DST, 6, all, REPLAY_NO_STEP);
+    refused_both(words, REPLAY_IMAGE, REPLAY_DST, 0, all, REPLAY_NO_STEP);
+    walk[REPLAY_WALK_AT] = UINT32_MAX;
+    refused_both(words, REPLAY_IMAGE, REPLAY_DST, TOUR, all, REPLAY_NO_STEP);
+    walk[REPLAY_WALK_AT] = 0;
+    refused_step(replay_back, words, REPLAY_IMAGE, REPLAY_DST, TOUR, all, REPLAY_NO_STEP);
+    walk[REPLAY_WALK_AT] = 1;
+
+    words[6 + REPLAY_INSN_OP] = LAST_OP + 1;
+    refused_step(replay_forward, words, REPLAY_IMAGE, REPLAY_DST, TOUR, REPLAY_ENTRY, REPLAY_NO_STEP);
+    refused_step(replay_forward, words, REPLAY_IMAGE, REPLAY_DST, TOUR, all, REPLAY_UNKNOWN_OP);
+    words[6 + REPLAY_INSN_OP] = REPLAY_OP_NOP;
+    refused_step(replay_forward, words, REPLAY_IMAGE, REPLAY_DST, TOUR, all, REPLAY_BAD_FIELD);
+    words[6 + REPLAY_INSN_OP] = REPLAY_OP_LOAD;
+    words[6 + REPLAY_INSN_MOD] = 3;
+    refused_step(replay_forward, words, REPLAY_IMAGE, REPLAY_DST, TOUR, all, REPLAY_BAD_LOAD_MOD);
+    expect(back(words, TOUR, REPLAY_ENTRY) == REPLAY_DONE, "back after all", 0);
+    stands(tour, 0);
+}
+
+/* The longest list, there and back, in the store that the header calls enough; in one that is a word shorter, all but the last step. */
+static void whole(void)
+{
+    static const uint32_t mods[4] = {2, 6, 7, 9};
+    const size_t all = sizeof entries / sizeof *entries;
+    for (uint32_t k = 0; k < LONGEST; k++) {
+        uint32_t *insn = list + 6 * k;
+        memset(insn, 0, 6 * sizeof *insn);
+        insn[REPLAY_INSN_OP] = k % 2 == 0 ? REPLAY_OP_LOADI : REPLAY_OP_STORE;
+        insn[REPLAY_INSN_IMM] = k % 2 == 0 ? k : k % 16;
+        insn[REPLAY_INSN_VB] = k % 2 == 0 ? 0 : k / 2 % 4;
+        insn[REPLAY_INSN_VD] = k / 2 % 8;
+        insn[REPLAY_INSN_MOD] = k % 2 == 0 ? 8 + k / 2 % 2 * 2 : mods[k / 2 % 4];
+    }
+    set_out(list, REPLAY_LIST);
+    expect(all == 821248, "the longest store", (unsigned)all);
+    for (unsigned k = 0; k < LONGEST - 1; k++) {
+        expect(forward(list, REPLAY_LIST, all - 1) == REPLAY_DONE, "forward", k);
+        stands(list, k + 1);
+    }
+    refused_step(replay_forward, list, REPLAY_IMAGE, REPLAY_DST, REPLAY_LIST, all - 1, REPLAY_NO_STEP);
+    expect(forward(list, REPLAY_LIST, all) == REPLAY_DONE, "the last step forward", LONGEST);
+    stands(list, LONGEST);
+    refused_step(replay_forward, list, REPLAY_IMAGE, REPLAY_DST, REPLAY_LIST, all, REPLAY_NO_STEP);
+    refused_step(replay_back, list, REPLAY_IMAGE, REPLAY_DST, REPLAY_LIST, all - 1, REPLAY_NO_STEP);
+    for (unsigned k = LONGEST; k-- > 0; ) {
+        expect(back(list, REPLAY_LIST, all) == REPLAY_DONE, "back", k);
+        stands(list, k);
+    }
+    refused_step(replay_back, list, REPLAY_IMAGE, REPLAY_DST, REPLAY_LIST, all, REPLAY_NO_STEP);
+    expect(same_image(&origin) && same_dst(&origin), "as it set out", 0);
+}
+
 /* A lane's words are in the image's order, its cells even and odd; both are lent both ways. */
 static void lane(void)
 {
@@ -332,6 +624,25 @@ static void nulls(void)
     expect(replay_report(NULL, 0, NULL, 0, &length) == REPLAY_TOO_LONG && length == 0, "nothing to report", 0);
 }
 
+/* The same of a walk, of which one step is done. */
+static void null_walks(void)
+{
+    start();
+    expect(replay_begin(settings, NULL, 0, dst, REPLAY_DST, tour, TOUR, outcome, walk) == REPLAY_BAD_IMAGE_LENGTH, "no image to begin", 0);
+    expect(replay_begin(settings, image, REPLAY_IMAGE, NULL, 0, tour, TOUR, outcome, walk) == REPLAY_BAD_DST_LENGTH, "no Dst to begin", 0);
+    expect(replay_begin(settings, NULL, 0, NULL, 0, NULL, 0, outcome, walk) == REPLAY_BAD_IMAGE_LENGTH, "nothing to begin", 0);
+    expect(replay_begin(settings, image, REPLAY_IMAGE, dst, REPLAY_DST, NULL, 0, outcome, walk) == REPLAY_DONE, "no list to begin", 0);
+    expect(replay_forward(settings, image, REPLAY_IMAGE, dst, REPLAY_DST, tour, TOUR, NULL, 0, walk) == REPLAY_NO_STEP, "no store at the start", 0);
+    expect(forward(tour, TOUR, REPLAY_ENTRY) == REPLAY_DONE, "a step", 0);
+    for (unsigned i = 0; i < 2; i++) {
+        expect(steps[i](settings, NULL, 0, dst, REPLAY_DST, tour, TOUR, entries, REPLAY_ENTRY, walk) == REPLAY_BAD_IMAGE_LENGTH, "no image", i);
+        expect(steps[i](settings, image, REPLAY_IMAGE, NULL, 0, tour, TOUR, entries, REPLAY_ENTRY, walk) == REPLAY_BAD_DST_LENGTH, "no Dst", i);
+        expect(steps[i](settings, image, REPLAY_IMAGE, dst, REPLAY_DST, NULL, 0, entries, REPLAY_ENTRY, walk) == REPLAY_NO_STEP, "no list", i);
+        expect(steps[i](settings, image, REPLAY_IMAGE, dst, REPLAY_DST, tour, TOUR, NULL, 0, walk) == REPLAY_NO_STEP, "no store", i);
+        expect(steps[i](settings, NULL, 0, NULL, 0, NULL, 0, NULL, 0, walk) == REPLAY_BAD_IMAGE_LENGTH, "nothing", i);
+    }
+}
+
 static size_t content(const char *name, uint8_t *bytes, size_t most)
 {
     FILE *file = fopen(name, "rb");
@@ -363,15 +674,16 @@ static void report(const char *listing, const char *stored)
 static void names(void)
 {
     for (uint32_t op = 1; op <= LAST_OP; op++) printf("op %u %s\n", (unsigned)op, replay_op_name(op));
-    for (uint32_t answer = 0; answer <= REPLAY_TOO_LONG; answer++) printf("answer %u %s\n", (unsigned)answer, replay_refusal_text(answer));
-    expect(strcmp(replay_refusal_text(REPLAY_TOO_LONG + 1), "unknown") == 0, "no text past the answers", 0);
+    for (uint32_t answer = 0; answer <= LAST_ANSWER; answer++) printf("answer %u %s\n", (unsigned)answer, replay_refusal_text(answer));
+    expect(strcmp(replay_refusal_text(LAST_ANSWER + 1), "unknown") == 0, "no text past the answers", 0);
 }
 
 int main(int argc, char **argv)
 {
     static const struct { const char *name; void (*topic)(void); } topics[] = {
         {"version", version}, {"ops", ops}, {"answers", answers}, {"words", words}, {"sizes", sizes},
-        {"stores", stores}, {"ties", ties}, {"lane", lane}, {"parts", parts}, {"nulls", nulls}, {"names", names},
+        {"stores", stores}, {"ties", ties}, {"begins", begins}, {"walks", walks}, {"kept", kept}, {"refused-steps", refused_steps},
+        {"whole", whole}, {"lane", lane}, {"parts", parts}, {"nulls", nulls}, {"null-walks", null_walks}, {"names", names},
     };
     if (argc == 4 && strcmp(argv[1], "report") == 0) {
         report(argv[2], argv[3]);

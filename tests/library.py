@@ -64,6 +64,39 @@ assert replay.run(replay.Settings(), replay.image(), replay.dst(), swaps + [swap
 assert replay.run(replay.Settings(), replay.image(), replay.dst(), []).ties == (0,) * 8
 assert replay.write(replay.Settings(), swaps)[1].ties == replay.read(b"")[2].ties == ()
 
+# A walk goes to the end and back, 12 at either, and stands where a run of so many instructions ends; what is stored to Dst is taken back too.
+settings, words, outcome = replay.read(content(os.path.join(root, "examples/store-and-load.lst")))
+settings.cursor = 40
+image, cells = replay.image(), replay.dst()
+walk, outcome = replay.begin(settings, image, cells, words)
+assert outcome == replay.Outcome(0, 0, 0, 40) and len(walk.store) * 6 == len(words) * replay.ENTRY
+
+
+def stands(at):
+    state, there = replay.image(), replay.dst()
+    outcome = replay.run(settings, state, there, words[: 6 * at])
+    return (walk.at, walk.cursor, image, cells) == (at, outcome.cursor, state, there)
+
+
+count = len(words) // 6
+assert stands(0) and all(walk.forward() == 0 and stands(at) for at in range(1, count + 1))
+assert any(cells) and walk.forward() == 12 and stands(count)
+assert list(walk.store[5 * replay.ENTRY + replay.IMAGE :][:2]) == [52, 54], "the cursor and the address of entry 5"
+assert all(walk.back() == 0 and stands(at) for at in reversed(range(count)))
+assert not any(cells) and walk.back() == 12 and stands(0)
+
+# Its store may be lent, with room for fewer steps or none; a walk that is refused is none, with a run's outcome.
+walk, outcome = replay.begin(settings, image, cells, words, array("I", [0]) * (2 * replay.ENTRY))
+assert [walk.forward(), walk.forward(), walk.forward()] == [0, 0, 12] and stands(2)
+assert [walk.back(), walk.forward(), walk.back(), walk.back(), walk.back()] == [0, 0, 0, 0, 12] and stands(0)
+assert replay.begin(settings, image, cells, words, array("I"))[0].forward() == 12
+assert replay.begin(settings, image, cells, [])[0].forward() == 12
+assert replay.begin(settings, image, cells, store + [store[0], 0, 0, 0, 0, 3]) == (None, replay.Outcome(8, 0, 1, 40))
+assert replay.begin(replay.Settings(cursor=1024), image, cells, words) == (None, replay.Outcome(3, 0, 0, 1024))
+assert replay.begin(settings, array("I"), array("H"), []) == (None, replay.Outcome(1, 0, 0, 40))
+assert refuses(TypeError, replay.begin(settings, image, cells, words, [0] * replay.ENTRY)[0].forward)
+assert refuses(TypeError, replay.begin, settings, [0] * replay.IMAGE, cells, words)
+
 # A lane and its cells, nothing lent, and what would not fit.
 own, cells = array("I", [0]) * 24, array("H", [0x1111, 0x2222])
 assert replay.lane(replay.Settings(), 9, [2, 40, 0, 0, 1, 10], own, own, cells) == 0 and own[1] == 40

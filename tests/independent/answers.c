@@ -1,4 +1,4 @@
-/* Cases run by the independent program and answered, a line for each call; and one of them shown. */
+/* Cases run by the independent program and answered, a line for each; and one of them shown. */
 #include "independent.h"
 
 #include <inttypes.h>
@@ -51,9 +51,33 @@ static void answer_reading(const struct reading_case *r, FILE *out)
 {
     static uint32_t list[ROOM_LIST];
     uint32_t settings[8], o[5];
-    for (size_t i = 0; i < ROOM_LIST; i++) list[i] = 2779096485u;
+    for (size_t i = 0; i < ROOM_LIST; i++) list[i] = UNWRITTEN;
     ind_read(r->text, r->text_len, list, r->room, settings, o);
     print(out, READING_CASE, o, 5, checksum(checksum(NOTHING, settings, 8), list, r->room));
+}
+
+/* The checksum goes on over what each call answered and left. */
+static uint32_t walk_checksum(uint32_t h, uint32_t answer, const struct walk_case *w)
+{
+    h = checksum(mixed(h, answer), w->walk, 2);
+    h = checksum(h, w->run.image, w->run.image_len);
+    h = checksum(h, w->store, w->store_len);
+    return cell_checksum(h, w->run.dst, w->run.dst_len);
+}
+
+static uint32_t begin(struct walk_case *w, uint32_t outcome[4])
+{
+    const struct run_case *r = &w->run;
+    return ind_begin(r->settings, r->image, r->image_len, r->dst_len, r->list, r->list_len, outcome, w->walk);
+}
+
+static void answer_walk(struct walk_case *w, FILE *out)
+{
+    uint32_t o[6], answer, h = walk_checksum(NOTHING, begin(w, o), w);
+    for (size_t i = 0; i < w->calls; i++)
+        if (ind_call(w, &w->call[i], &answer)) h = walk_checksum(h, answer, w);
+    memcpy(o + 4, w->walk, sizeof w->walk);
+    print(out, WALK_CASE, o, 6, h);
 }
 
 static void answer(struct any_case *c, FILE *out)
@@ -62,6 +86,7 @@ static void answer(struct any_case *c, FILE *out)
     case RUN_CASE:     answer_run(&c->run, out); break;
     case LANE_CASE:    answer_lane(&c->lane, out); break;
     case WRITING_CASE: print(out, WRITING_CASE, c->writing.outcome, 5, byte_checksum(c->writing.text, c->writing.room)); break;
+    case WALK_CASE:    answer_walk(&c->walk, out); break;
     default:           answer_reading(&c->reading, out);
     }
 }
@@ -94,22 +119,17 @@ static void show_cells(const char *what, const uint16_t *cells, FILE *out)
     fprintf(out, "\n");
 }
 
-/* The rows of Dst that a run changes. */
-static void show_dst(const struct run_case *c, FILE *out)
+static void show_rows(const uint16_t *before, const uint16_t *after, FILE *out)
 {
-    static struct run_case r;
-    uint32_t o[12];
-    r = *c;
-    if (ind_run(r.settings, r.image, r.image_len, r.dst, r.dst_len, r.list, r.list_len, o) != 0) return;
     for (size_t at = 0; at < DST_CELLS; at += 16) {
-        if (memcmp(c->dst + at, r.dst + at, 16 * sizeof *r.dst) == 0) continue;
+        if (memcmp(before + at, after + at, 16 * sizeof *after) == 0) continue;
         fprintf(out, "row=%04zu\n", at / 16);
-        show_cells("  before", c->dst + at, out);
-        show_cells("  after ", r.dst + at, out);
+        show_cells("  before", before + at, out);
+        show_cells("  after ", after + at, out);
     }
 }
 
-static void show_run(const struct run_case *r, FILE *out)
+static void show_lent(const struct run_case *r, FILE *out)
 {
     show_list(r->settings, r->list, r->list_len, out);
     fprintf(out, "list of %zu words, image of %zu words, Dst of %zu cells\n", r->list_len, r->image_len, r->dst_len);
@@ -118,7 +138,61 @@ static void show_run(const struct run_case *r, FILE *out)
         for (unsigned l = 0; l < LANES; l++) fprintf(out, " %08" PRIX32, r->image[LANES * s + l]);
         fprintf(out, "\n");
     }
-    show_dst(r, out);
+}
+
+/* And the rows of Dst that it changes. */
+static void show_run(const struct run_case *c, FILE *out)
+{
+    static struct run_case r;
+    uint32_t o[12];
+    show_lent(c, out);
+    r = *c;
+    if (ind_run(r.settings, r.image, r.image_len, r.dst, r.dst_len, r.list, r.list_len, o) == 0) show_rows(c->dst, r.dst, out);
+}
+
+static void show_change(const struct call *c, FILE *out)
+{
+    const uint32_t *n = c->n;
+    switch (c->kind) {
+    case CHANGE_STORE:
+    case CHANGE_IMAGE:
+        fprintf(out, "%s: %" PRIu32 " words from %" PRIu32 " on are %08" PRIX32 "\n", c->kind == CHANGE_STORE ? "store" : "image", n[1], n[0], n[2]);
+        break;
+    case CHANGE_WALK:    fprintf(out, "walk: at=%" PRIu32 " cursor=%" PRIu32 "\n", n[0], n[1]); break;
+    case CHANGE_SETTING: fprintf(out, "settings: number %" PRIu32 " is %" PRIu32 "\n", n[0] % 8, n[1]); break;
+    case CHANGE_LENGTHS:
+        fprintf(out, "lengths: image %" PRIu32 ", Dst %" PRIu32 ", list %" PRIu32 ", store %" PRIu32 "\n", n[0], n[1], n[2], n[3]);
+        break;
+    }
+}
+
+/* What a call answered, the walk then, and the checksum so far. */
+static void show_answered(const char *what, uint32_t answer, const uint32_t walk[2], uint32_t h, FILE *out)
+{
+    fprintf(out, "%s: answer=%" PRIu32 " at=%" PRIu32 " cursor=%" PRIu32 " %08" PRIx32 "\n", what, answer, walk[W_AT], walk[W_CURSOR], h);
+}
+
+/* And call by call, with the rows of Dst that each changes. */
+static void show_walk(const struct walk_case *c, FILE *out)
+{
+    static struct walk_case w;
+    static uint16_t before[ROOM_DST];
+    uint32_t o[4], answer, h;
+    show_lent(&c->run, out);
+    fprintf(out, "store of %zu words, walk at=%" PRIu32 " cursor=%" PRIu32 "\n", c->store_len, c->walk[W_AT], c->walk[W_CURSOR]);
+    w = *c;
+    answer = begin(&w, o), h = walk_checksum(NOTHING, answer, &w);
+    show_answered("begin", answer, w.walk, h, out);
+    for (size_t i = 0; i < w.calls; i++) {
+        memcpy(before, w.run.dst, sizeof before);
+        if (!ind_call(&w, &w.call[i], &answer)) {
+            show_change(&w.call[i], out);
+            continue;
+        }
+        h = walk_checksum(h, answer, &w);
+        show_answered(w.call[i].kind == FORWARD ? "forward" : "back", answer, w.walk, h, out);
+        show_rows(before, w.run.dst, out);
+    }
 }
 
 static void show_lane(const struct lane_case *l, FILE *out)
@@ -144,6 +218,9 @@ static void show(const struct any_case *c, FILE *out)
     case WRITING_CASE:
         show_list(c->writing.settings, c->writing.list, c->writing.list_len, out);
         fprintf(out, "list of %zu words, written into %zu bytes\n", c->writing.list_len, c->writing.room);
+        break;
+    case WALK_CASE:
+        show_walk(&c->walk, out);
         break;
     default:
         fwrite(c->reading.text, 1, c->reading.text_len, out);

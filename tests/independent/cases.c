@@ -350,15 +350,21 @@ static void damage_run(struct run *r)
     }
 }
 
-static void put_run(const struct run *r)
+/* What is lent, after the case's kind. */
+static void put_lent(const struct run *r)
 {
-    put(RUN_CASE);
     put_all(r->settings, 8);
     put_list(&r->list);
     put_image(&r->image);
     put(r->image_len);
     put(r->dst_len);
     put((uint32_t)r->list.len);
+}
+
+static void put_run(const struct run *r)
+{
+    put(RUN_CASE);
+    put_lent(r);
 }
 
 static void make_run(void)
@@ -722,9 +728,443 @@ static void make_reading(void)
 
 static void make_again(void) { put_writing(again_settings, &again, bytes_needed(&again)); }
 
+/* Walks: what is lent, and the calls, which are held until their number is known. */
+
+enum { MOST_CALLS = 64, FEW_CALLS = 18 };
+
+static struct call calls[MOST_CALLS];
+static uint32_t call_count;
+
+static void call(uint32_t kind, uint32_t a, uint32_t b, uint32_t c, uint32_t d)
+{
+    if (call_count < MOST_CALLS) calls[call_count++] = (struct call){ kind, { a, b, c, d } };
+}
+
+static void put_calls(void)
+{
+    static const uint8_t numbers[CALLS] = { [CHANGE_STORE] = 3, [CHANGE_IMAGE] = 3, [CHANGE_WALK] = 2, [CHANGE_SETTING] = 2, [CHANGE_LENGTHS] = 4 };
+    put(call_count);
+    for (uint32_t i = 0; i < call_count; i++) {
+        put(calls[i].kind);
+        put_all(calls[i].n, calls[i].kind < CALLS ? numbers[calls[i].kind] : 0);
+    }
+}
+
+struct walk {
+    struct run run;                     /* as it is lent at first */
+    uint32_t settings[8], list_len;     /* in order, as they are or as they would be without damage */
+    uint32_t store_len, walk[2];
+    uint32_t at;                        /* where the steps so far lead, if none is refused but by 12 */
+};
+
+static const uint32_t *insn_at(const struct walk *w, uint32_t i)
+{
+    static const uint32_t none[6];
+    return w->run.list.given > 0 ? w->run.list.word + 6 * (i % w->run.list.given) : none;
+}
+
+/* How many steps there are that way: up to the end of the list or of the store, or to a faulty instruction. */
+static uint32_t ahead(const struct walk *w, uint32_t kind)
+{
+    const uint32_t entries = w->store_len / ENTRY, count = w->list_len / 6, end = count < entries ? count : entries;
+    uint32_t to = w->at;
+    if (kind == BACK) return to <= end ? to : 0;
+    while (to < end && ind_insn_fault(insn_at(w, to)) == 0) to++;
+    return to - w->at;
+}
+
+static void step(struct walk *w, uint32_t kind)
+{
+    call(kind, 0, 0, 0, 0);
+    if (ahead(w, kind) == 0) return;
+    if (kind == FORWARD) w->at++;
+    else w->at--;
+}
+
+static void steps(struct walk *w, uint32_t kind, uint32_t times)
+{
+    while (times-- > 0) step(w, kind);
+}
+
+/* As many as there are, and at times one more. */
+static void burst(struct walk *w, uint32_t kind, uint32_t times)
+{
+    uint32_t most = ahead(w, kind) + (below(4) == 0);
+    steps(w, kind, times < most ? times : most);
+}
+
+static uint32_t either(void) { return below(2) == 0 ? FORWARD : BACK; }
+
+/* A step that is to be refused, and so leads nowhere. */
+static void refused_step(void) { call(either(), 0, 0, 0, 0); }
+
+static void lend_in_order(const struct walk *w) { call(CHANGE_LENGTHS, IMAGE_WORDS, DST_CELLS, w->list_len, w->store_len); }
+
+static void lend_store(struct walk *w, uint32_t len)
+{
+    w->store_len = len < ROOM_STORE ? len : ROOM_STORE;
+    lend_in_order(w);
+}
+
+static void place_walk(struct walk *w, uint32_t at)
+{
+    w->at = at;
+    call(CHANGE_WALK, at, below(1024), 0, 0);
+}
+
+/* A length by which every step is refused: a little off, or more than there is. */
+static void break_length(struct walk *w)
+{
+    uint32_t t = below(4), v = below(3), e = 1 + below(5), image_len = IMAGE_WORDS, dst_len = DST_CELLS, list_len = w->list_len;
+    if (t == 0) image_len = v == 0 ? 767 : v == 1 ? 769 : 4294967295u;
+    else if (t == 1) dst_len = v == 0 ? 16383 : v == 1 ? 16385 : 4294967295u;
+    else if (t == 2) list_len = v < 2 ? list_len + e : 4294967295u;
+    else list_len = 6150;
+    call(CHANGE_LENGTHS, image_len, dst_len, list_len, w->store_len);
+    refused_step();
+    lend_in_order(w);
+}
+
+static void break_setting(struct walk *w)
+{
+    uint32_t i = below(8), v = below(3), d = draw();
+    call(CHANGE_SETTING, i, out_of(i < 2 ? 3 : 1024, v, d), 0, 0);
+    refused_step();
+    call(CHANGE_SETTING, i, w->settings[i], 0, 0);
+}
+
+/* The word that an image can't have, and where. */
+static struct call ill_formed(void)
+{
+    struct image i = { 0 };
+    damage_image(&i);
+    return (struct call){ CHANGE_IMAGE, { i.change[0][0], 1, i.change[0][2], 0 } };
+}
+
+static void break_image(void)
+{
+    struct call c = ill_formed();
+    call(c.kind, c.n[0], 1, c.n[2], 0);
+    refused_step();
+    if (below(4) > 0) call(c.kind, c.n[0], 1, 0, 0);
+}
+
+/* A walk past the list's end, or with a cursor that is none. */
+static void break_walk(struct walk *w)
+{
+    uint32_t count = w->list_len / 6, t = below(6), v = below(3), d = draw(), at = w->at, cursor = below(1024);
+    if (t < 3) at = t == 0 ? count + 1 : out_of(count + 1, v, d);
+    else cursor = out_of(1024, v, d);
+    if (t == 5) at = out_of(count, v, d);
+    call(CHANGE_WALK, at, cursor, 0, 0);
+    refused_step();
+    place_walk(w, w->at);
+}
+
+/* The store is lent anew, with a word less than a step needs, or just enough; at times it stays so. */
+static void lend_other_store(struct walk *w)
+{
+    uint32_t was = w->store_len, t = below(6), v = below(64), len = ENTRY * w->at, kind;
+    if (t < 2 && len > 0) len -= 1, kind = BACK;
+    else if (t == 2 && len > 0) len -= len > v ? v + 1 : len, kind = BACK;
+    else if (t < 4) kind = BACK;
+    else len += t == 4 ? ENTRY - 1 : ENTRY, kind = FORWARD;
+    lend_store(w, len);
+    step(w, kind);
+    if (below(3) == 0) step(w, either());
+    if (below(4) > 0) lend_store(w, was);
+}
+
+/* The list is lent anew, longer or shorter, at times by an instruction that is done already; and mostly it stays so. */
+static void lend_other_list(struct walk *w)
+{
+    uint32_t was = w->list_len, count = was / 6, t = below(4), v = below(13);
+    count = t == 0 ? count + 1 : t == 1 && w->at > 0 && w->at < 1024 ? w->at - 1 : t == 2 ? w->at % 1024 : v;
+    w->list_len = 6 * (count < MAX_INSNS ? count : MAX_INSNS);
+    lend_in_order(w);
+    step(w, either());
+    if (t != 1) return;
+    step(w, BACK);
+    w->list_len = was;
+    lend_in_order(w);
+}
+
+/* The last entry, mostly a STORE's, is damaged and then gone back over. What that brings may be put right; else every step after it is refused. */
+static void break_entry(struct walk *w)
+{
+    for (uint32_t n = 1 + below(4); n > 0 && (w->at == 0 || insn_at(w, w->at - 1)[F_OP] != STORE); n--) step(w, FORWARD);
+    if (w->at == 0 || w->at > ROOM_STORE / ENTRY) return;
+    uint32_t t = below(10), first = below(LANES), count = 1 + below(LANES), v = below(4), d = word(), place, n = 1, now;
+    struct call c = ill_formed();
+    if (insn_at(w, w->at - 1)[F_OP] == STORE && below(3) > 0) t = 2 + 5 * below(2);     /* other cells are brought back */
+    switch (t) {
+    case 0:  place = E_CELLS + first, n = count < LANES - first ? count : LANES - first, now = v == 0 ? d : d % 65536; break;
+    case 1:  place = E_CELLS, n = LANES, now = d; break;
+    case 2:  place = E_ADDRESS, now = v == 0 ? d : v == 1 ? 1024 + d % 1024 : d % 1024; break;
+    case 3:  place = E_CURSOR, now = d % 1024; break;
+    case 4:  place = E_CURSOR, now = out_of(1024, v, d % 65536); break;
+    case 5:  place = LANES * (d % 8) + first, now = d; break;
+    case 6:  place = c.n[0], now = c.n[2]; break;
+    default: place = LANES * SLOT_CONFIG + first % 8, n = 8 - first % 8, now = v == 0 ? d % 262144 : v == 1 ? 0 : 32;
+    }
+    call(CHANGE_STORE, ENTRY * (w->at - 1) + place, n, now, 0);
+    step(w, BACK);
+    if (below(2) == 0) step(w, either());
+    if (t == 4) place_walk(w, w->at);
+    if (t == 6 && below(2) == 0) call(CHANGE_IMAGE, place, n, 0, 0);
+}
+
+/* To an entry that may never have been kept, whose image is none, nor its cursor. If there is a faulty instruction, it may be that one's. */
+static void jump(struct walk *w)
+{
+    uint32_t count = w->list_len / 6, at = 1 + below(count + 1), t = below(4), place;
+    if (ind_list_fault(w->run.list.word, w->run.list.given, &place) != 0 && place < count && below(2) == 0) at = place + 1;
+    place_walk(w, at);
+    step(w, t == 0 ? FORWARD : BACK);
+    if (t < 2) return;
+    for (uint32_t slot = SLOT_CONFIG; slot < SLOTS; slot++)
+        if (!ind_slot_good(slot, UNWRITTEN)) call(CHANGE_IMAGE, LANES * slot, LANES, 0, 0);
+    place_walk(w, w->at);
+}
+
+/* Something that is in order: a setting, registers, LaneConfig, the walk's cursor, or words of the store that are free, to its end at times. */
+static void change_lent(struct walk *w)
+{
+    uint32_t t = below(5), i = below(8), v = below(1024), d = word();
+    struct lanes lanes = some_lanes();
+    if (t == 0) {
+        w->settings[i] = i < 2 ? 1 + v % 2 : v;
+        call(CHANGE_SETTING, i + 8 * (d % 3), w->settings[i], 0, 0);
+    } else if (t == 1) {
+        call(CHANGE_IMAGE, LANES * i + lanes.first, lanes.count, d, 0);
+    } else if (t == 2) {
+        call(CHANGE_IMAGE, LANES * SLOT_CONFIG + lanes.first, lanes.count, i < 4 ? 32 : d % 262144, 0);
+    } else if (t == 3) {
+        place_walk(w, w->at);
+    } else if (w->at <= ROOM_STORE / ENTRY) {
+        call(CHANGE_STORE, ENTRY * w->at + v, i == 0 ? 4294967295u : 1 + d % 1024, d, 0);
+    }
+}
+
+/* Each of 1 to 6 where those after it would be given too: all that is wrong is put right in turn. */
+static void break_all(struct walk *w)
+{
+    uint32_t kind = either(), i = below(9), v = below(3), d = draw(), cursor = below(1024);
+    struct call c = ill_formed();
+    call(c.kind, c.n[0], 1, c.n[2], 0);
+    if (i < 8) call(CHANGE_SETTING, i, out_of(i < 2 ? 3 : 1024, v, d), 0, 0);
+    else call(CHANGE_WALK, w->at, out_of(1024, v, d), 0, 0);
+    for (int right = 0; right < 3; right++) {
+        call(CHANGE_LENGTHS, right < 1 ? 767 : IMAGE_WORDS, right < 2 ? 16383 : DST_CELLS, 6151, w->store_len);
+        call(kind, 0, 0, 0, 0);
+    }
+    if (i < 8) call(CHANGE_SETTING, i, w->settings[i], 0, 0);
+    else call(CHANGE_WALK, w->at, cursor, 0, 0);
+    call(kind, 0, 0, 0, 0);
+    call(CHANGE_LENGTHS, IMAGE_WORDS, DST_CELLS, 6150, w->store_len);
+    call(kind, 0, 0, 0, 0);
+    lend_in_order(w);
+    call(kind, 0, 0, 0, 0);
+    call(c.kind, c.n[0], 1, 0, 0);
+    step(w, kind);
+}
+
+/* What a host may do between two steps. */
+static void meddle(struct walk *w)
+{
+    switch (below(24)) {
+    case 0:  break_length(w); break;
+    case 1:  break_setting(w); break;
+    case 2:  break_image(); break;
+    case 3:  break_walk(w); break;
+    case 4:  case 5: case 6: lend_other_store(w); break;
+    case 7:  case 8: lend_other_list(w); break;
+    case 9:  case 10: jump(w); break;
+    case 11: call(below(2) == 0 ? 0 : CALLS + below(300), 0, 0, 0, 0); break;
+    case 12: case 13: change_lent(w); break;
+    default: break_entry(w);
+    }
+}
+
+/* Bursts of steps: forwards, some of them back, and on. At times to one of the ends at last. */
+static void wander(struct walk *w, uint32_t end, bool meddled)
+{
+    uint32_t t = below(4);
+    while (call_count < end) {
+        uint32_t on = 1 + below(6);
+        burst(w, FORWARD, on);
+        if (meddled && below(2) == 0) meddle(w);
+        burst(w, BACK, below(on + 2));
+        if (meddled && below(4) == 0) meddle(w);
+        /* where no step is possible */
+        if (ahead(w, FORWARD) + ahead(w, BACK) == 0) refused_step();
+    }
+    if (t == 0) burst(w, FORWARD, 12);
+    else if (t == 1) burst(w, BACK, 12);
+}
+
+/* To the end and one more, back to the start and one more, and at times on again into the room that is free again. */
+static void there_and_back(struct walk *w)
+{
+    steps(w, FORWARD, ahead(w, FORWARD) + 1);
+    if (below(8) == 0) meddle(w);
+    if (w->run.list.given > w->list_len / 6 && below(2) == 0) {
+        w->list_len += 6;
+        lend_in_order(w);
+        steps(w, FORWARD, 2);
+    }
+    steps(w, BACK, ahead(w, BACK) + 1);
+    if (below(2) == 0) steps(w, FORWARD, 1 + below(3));
+}
+
+/* STOREs, many to the same few cells, and what makes them differ: words, flags, LaneConfig. */
+static void make_store_list(struct list *l, uint32_t count, uint32_t most)
+{
+    uint32_t near = below(1024), t;
+    make_list(l, count, most);
+    for (size_t i = 0; i < l->given; i++) {
+        uint32_t *insn = l->word + 6 * i;
+        t = below(8);
+        if (t < 5) make_op(insn, t == 4 ? LOAD : STORE);
+        if (t < 5 && below(2) == 0) insn[F_IMM] = (near + below(4)) % 1024;
+        if (t != 5) continue;
+        make_op(insn, CONFIG);
+        insn[F_IMM] = insn[F_MOD] & 8 ? insn[F_IMM] : 32;
+        insn[F_VD] = 15;
+    }
+}
+
+/* By each of 7, 8 and 9 alike, and often a STORE. */
+static void damage_one(uint32_t *insn)
+{
+    uint32_t t = below(4), w = word();
+    if (t == 0) {
+        insn[F_OP] = OPS + w % 65536;
+    } else if (t == 1) {
+        damage_insn(insn, 1);
+    } else {
+        make_op(insn, t == 2 ? LOAD : STORE);
+        insn[F_MOD] = refused_mods[w % 4];
+    }
+}
+
+/* Columns exchanged in some lanes, of row 0 or not, and lanes not enabled. */
+static void make_walk_image(struct image *i)
+{
+    make_image(i);
+    if (below(3) == 0) {
+        uint32_t w = below(2) == 0 ? 32 : 0;
+        change(i, SLOT_CONFIG, some_lanes(), w);
+    }
+    if (below(3) == 0) {
+        struct lanes lanes = some_lanes();
+        change(i, SLOT_FLAG, lanes, 0);
+        change(i, SLOT_USE, lanes, 1);
+    }
+}
+
+static uint32_t walk_count(void)
+{
+    uint32_t t = below(32);
+    if (t == 0) return 0;
+    if (t == 1) return 41 + below(984);
+    return 1 + below(t < 8 ? 3 : 10);
+}
+
+/* Room for every step, or for some, or for all but a word of them, or more than there is. */
+static uint32_t store_words(uint32_t count)
+{
+    uint32_t t = below(16), v = below(10), entries = count < 40 ? count : 40, some = below(entries + 1);
+    switch (t) {
+    case 0:  return v;
+    case 1:  return ENTRY * some + v;
+    case 2:  return ENTRY * some;
+    case 3:  return ENTRY * some + ENTRY - 1;
+    case 4:  return ENTRY * entries + ENTRY - 1;
+    case 5:  return entries > 0 ? ENTRY * entries - 1 : v;
+    case 6:  return v == 0 ? 4294967295u : ENTRY * entries + ENTRY;
+    default: return ENTRY * entries + (t < 10 ? v : 0);
+    }
+}
+
+static void make_lent(struct walk *w, uint32_t count)
+{
+    struct run *r = &w->run;
+    uint32_t t = below(8), most = count > 40 ? 6 : 12;
+    r->image_len = IMAGE_WORDS, r->dst_len = DST_CELLS;
+    make_settings(r->settings);
+    if (t < 4) make_store_list(&r->list, count, most);
+    else if (t == 4) make_tie_list(&r->list, count, most);
+    else make_list(&r->list, count, most);
+    /* Small strides keep STOREs together. */
+    for (int i = S_STRIDE0; t < 3 && i < 8; i++) r->settings[i] = below(4);
+    if (t == 4) make_tie_image(&r->image);
+    else make_walk_image(&r->image);
+    if (r->list.given >= 2 && below(8) == 0) make_pair(r->settings, r->list.word + 6 * below((uint32_t)r->list.given - 1));
+    /* One more than the list's length has, and mostly faulty: a host may lend it later. */
+    if (count <= 10 && below(6) == 0) {
+        uint32_t *more = r->list.word + 6 * r->list.given++;
+        make_insn(more);
+        damage_one(more);
+    }
+    w->store_len = store_words(count);
+    w->list_len = (uint32_t)r->list.len;
+    memcpy(w->settings, r->settings, sizeof w->settings);
+}
+
+/* The walk before it begins, which is what it stays if it can't begin. */
+static void make_walk_words(struct walk *w)
+{
+    uint32_t t = below(8), v = below(3), d = draw(), count = w->list_len / 6;
+    w->walk[W_AT] = t < 6 ? 0 : t == 6 ? below(count + 2) : out_of(count, v, d);
+    w->walk[W_CURSOR] = below(1024);
+    if (t == 5) w->walk[W_CURSOR] = out_of(1024, v, d);
+}
+
+/* What was lent out of order is put right, but for instructions. */
+static void mend(struct walk *w, uint32_t changes)
+{
+    const struct run *r = &w->run;
+    if (r->image_len != IMAGE_WORDS || r->dst_len != DST_CELLS || r->list.len != w->list_len) lend_in_order(w);
+    for (uint32_t i = 0; i < 8; i++)
+        if (r->settings[i] != w->settings[i]) call(CHANGE_SETTING, i, w->settings[i], 0, 0);
+    for (; changes < r->image.changes; changes++) call(CHANGE_IMAGE, r->image.change[changes][0], 1, 0, 0);
+    if (w->walk[W_CURSOR] > 1023) place_walk(w, 0);
+}
+
+static void make_walk(uint32_t k)
+{
+    static struct walk w;
+    const bool full = k % 64 == 63;         /* these fill a store of the most words */
+    uint32_t count = full ? 41 + below(3) : walk_count(), changes, first_store, t;
+    int damaged = full ? 0 : damages();
+    call_count = 0;
+    make_lent(&w, count);
+    if (full) w.store_len = ENTRY * 40 + below(11);
+    make_walk_words(&w);
+    changes = w.run.image.changes, first_store = w.store_len, w.at = 0;
+    for (int n = damaged; n > 0; n--) {
+        if (w.run.list.given > 0 && below(4) == 0) damage_one(w.run.list.word + 6 * below((uint32_t)w.run.list.given));
+        else damage_run(&w.run);
+    }
+    if (damaged > 0) w.at = w.walk[W_AT];
+    if (damaged > 0 && below(4) > 0) mend(&w, changes);
+    t = below(8);
+    if (damaged > 0 && below(2) == 0) jump(&w);
+    if (full) steps(&w, FORWARD, 41), steps(&w, BACK, 1 + below(3)), steps(&w, FORWARD, 5);
+    else if (t == 0) break_all(&w), wander(&w, FEW_CALLS, false);
+    else if (t < 3 && count <= 10) there_and_back(&w);
+    else wander(&w, 2 + below(FEW_CALLS), t < 6);
+    put(WALK_CASE);
+    put_lent(&w.run);
+    put(first_store);
+    put_all(w.walk, 2);
+    put_calls();
+}
+
 /* All of them. */
 
-void ind_cases(uint32_t seed, uint32_t runs, uint32_t lanes, uint32_t listings, FILE *to)
+void ind_cases(uint32_t seed, uint32_t runs, uint32_t lanes, uint32_t listings, uint32_t walks, FILE *to)
 {
     out = to;
     for (uint32_t k = 0; k < runs; k++) {
@@ -744,5 +1184,9 @@ void ind_cases(uint32_t seed, uint32_t runs, uint32_t lanes, uint32_t listings, 
         else if (k % 25 < 21) make_reading();
         else if (k % 25 == 21) make_again();
         else make_writing();
+    }
+    for (uint32_t k = 0; k < walks; k++) {
+        start(seed, k, 16);
+        make_walk(k);
     }
 }

@@ -21,6 +21,13 @@ bool ind_slot_good(unsigned slot, uint32_t word)
     }
 }
 
+bool ind_image_good(const uint32_t *image)
+{
+    for (unsigned i = 0; i < IMAGE_WORDS; i++)
+        if (!ind_slot_good(i / LANES, image[i])) return false;
+    return true;
+}
+
 bool ind_op_known(uint32_t op) { return op >= LOAD && op < OPS; }
 
 /* One line for each sentence of "Fields", and M-101's; a field that is not named must be 0. */
@@ -66,4 +73,23 @@ uint32_t ind_list_fault(const uint32_t *list, size_t count, uint32_t *place)
     }
     *place = 0;
     return 0;
+}
+
+/* 1 to 6: of what is lent, whatever the list's words are. */
+uint32_t ind_lent_fault(const uint32_t settings[8], const uint32_t *image, size_t image_len, size_t dst_len, size_t list_len)
+{
+    if (image_len != IMAGE_WORDS) return 1;
+    if (dst_len != DST_CELLS) return 2;
+    if (!ind_settings_good(settings)) return 3;
+    if (list_len % 6 != 0) return 4;
+    if (list_len / 6 > MAX_INSNS) return 5;
+    return ind_image_good(image) ? 0 : 6;
+}
+
+uint32_t ind_run_fault(const uint32_t settings[8], const uint32_t *image, size_t image_len, size_t dst_len,
+                       const uint32_t *list, size_t list_len, uint32_t *place)
+{
+    uint32_t fault = ind_lent_fault(settings, image, image_len, dst_len, list_len);
+    *place = 0;
+    return fault != 0 ? fault : ind_list_fault(list, list_len / 6, place);
 }

@@ -8,8 +8,8 @@
 enum { WORDS = 17 };                        /* the last column: 16 and more */
 
 struct tally {
-    unsigned long answer[4][12];            /* runs, lanes, writing, reading */
-    unsigned long cases[4];
+    unsigned long answer[7][13];            /* runs, lanes, writing, reading, and of walks begin, forward, back */
+    unsigned long cases[7];
     unsigned long mod[OPS][WORDS];          /* instructions of runs and lanes that were done, by op */
     unsigned long vd[OPS][WORDS];
     unsigned long edition[OPS][WORDS];
@@ -20,6 +20,7 @@ struct tally {
     unsigned long equal[3][WORDS];          /* lanes of a run with two equal words under SWAP, by what the lane does and mod */
     unsigned long ties[2][COLUMNS];         /* what runs count, by column: together, and the most that one counts */
     unsigned long untold[12];               /* refused runs that count none and else would, by answer */
+    unsigned long undone[OPS][WORDS];       /* steps back, by op and mod of the instruction gone back over */
 };
 
 static struct tally t;
@@ -48,6 +49,29 @@ static const char *const tie_names[TIES] = {
     "lanes, vc and vd the same register", "lanes, one of the two a register that is never stored", "lanes, vd 12 to 15 and bit 4 set", "lanes with bit 2 set",
     "lanes with bit 8 set", "lanes with two words that are equal after SWAP and not before, no ties", "lanes with two words that are equal before SWAP and not after",
     "runs with a tie", "runs with other ties in one column than in another", "runs with ties in one column alone",
+};
+
+/* Why a step is refused by 12. */
+enum { FROM_END, PAST_END, ONE_SHORT, MORE_SHORT, FROM_START, BACK_PAST_END, BACK_ONE_SHORT, BACK_MORE_SHORT, TWELVES };
+static unsigned long twelves[TWELVES];
+static const char *const twelve_names[TWELVES] = {
+    "forward from the end", "forward, the walk past the end", "forward, the store short by one word", "forward, the store short by more",
+    "back from the start", "back, the walk past the end", "back, the store short by one word", "back, the store short by more",
+};
+
+/* What walks meet: in cells kept, in steps, and as walks. */
+enum { KEPT_OFF, KEPT_ROW0, KEPT_ADDRESS, USED_AGAIN, BRINGS_CELL, NEVER_KEPT, NOT_AS_KEPT, ILL_FORMED, BAD_CURSOR, BAD_ADDRESS, BAD_CELL, OTHER_ROWS,
+       OTHER_COLUMN, OVER_REFUSED, OVER_BAD_STORE, QUIET_STEPS, ENDS_AT_START, ENDS_AT_END, TURNS, STEPS_REFUSED_BEGIN, MOST_ENTRIES, WALKS };
+static unsigned long walks[WALKS];
+static const char *const walk_names[WALKS] = {
+    "cells kept of lanes not enabled", "cells kept in the odd column by bit 5 of row 0's lane alone", "cells kept in the odd column by the address",
+    "steps forward whose entry takes the room of one that was freed", "steps back over a STORE that change a cell", "steps back over an entry that was never kept",
+    "steps back over an entry that the host changed", "steps back that bring an image that is not well formed", "steps back that bring a cursor above 1,023",
+    "steps back over a STORE with an address above 1,023", "steps back over a STORE with a cell above 65,535",
+    "steps back over a STORE to other rows, as the host changed its entry", "steps back over a STORE to another column, as the host changed its entry",
+    "steps back over an instruction that is refused by 7, 8 or 9", "steps back over a STORE that is refused by 8",
+    "steps of walks in which the host changes nothing", "walks with steps that end at the start", "walks with steps that end at the list's end",
+    "walks that turn four times or more", "walks with steps, though refused when they begin", "entries in a store, the most",
 };
 
 /* A lane's words, out of those of so many lanes, which stand slot by slot. */
@@ -288,12 +312,110 @@ static void count_reading(const struct reading_case *r)
     count_answer(3, ind_read(r->text, r->text_len, list, r->room, settings, o), NULL);
 }
 
+static int why_twelve(const struct walk_case *w, uint32_t kind)
+{
+    const uint64_t at = w->walk[W_AT], count = w->run.list_len / 6, needed = ENTRY * (kind == FORWARD ? at + 1 : at);
+    const bool one = w->store_len + 1 == needed;
+    if (kind == FORWARD) return at == count ? FROM_END : at > count ? PAST_END : one ? ONE_SHORT : MORE_SHORT;
+    return at == 0 ? FROM_START : at > count ? BACK_PAST_END : one ? BACK_ONE_SHORT : BACK_MORE_SHORT;
+}
+
+/* The entries of a walk's store as they were kept, to see what was changed since. */
+static uint32_t kept[ROOM_STORE];
+
+/* An entry that was just kept, what was kept in its room before it, and its instruction. */
+static void count_kept(const uint32_t *entry, const uint32_t *room, const uint32_t *insn)
+{
+    walks[USED_AGAIN] += room[E_CURSOR] != UNWRITTEN;
+    for (unsigned lane = 0; insn[F_OP] == STORE && lane < LANES; lane++) {
+        uint32_t w[SLOTS];
+        take_lane(w, entry, LANES, lane);
+        bool by_address = entry[E_ADDRESS] >> 1 & 1;
+        walks[KEPT_OFF] += !enabled(w);
+        walks[KEPT_ADDRESS] += by_address;
+        walks[KEPT_ROW0] += !by_address && entry[LANES * SLOT_CONFIG + lane % 8] >> 5 & 1;
+    }
+}
+
+/* An entry that was just gone back over, as it is and as it was kept, and its instruction. */
+static void count_undone(const uint32_t *entry, const uint32_t *once, const uint32_t *insn, bool changes_dst)
+{
+    const bool store = insn[F_OP] == STORE, never = once[E_CURSOR] == UNWRITTEN, changed = memcmp(entry, once, ENTRY * sizeof *entry) != 0;
+    bool cell = false;
+    for (unsigned lane = 0; lane < LANES; lane++) cell = cell || entry[E_CELLS + lane] > 65535;
+    if (ind_op_known(insn[F_OP])) t.undone[insn[F_OP]][insn[F_MOD] < 16 ? insn[F_MOD] : 16]++;
+    walks[BRINGS_CELL] += store && changes_dst;
+    walks[NEVER_KEPT] += never;
+    walks[NOT_AS_KEPT] += changed && !never;
+    walks[ILL_FORMED] += !ind_image_good(entry);
+    walks[BAD_CURSOR] += entry[E_CURSOR] > 1023;
+    walks[BAD_ADDRESS] += store && entry[E_ADDRESS] > 1023;
+    walks[BAD_CELL] += store && cell;
+    walks[OVER_REFUSED] += ind_insn_fault(insn) != 0;
+    walks[OVER_BAD_STORE] += store && ind_insn_fault(insn) != 0;
+    if (!store || !changed || never) return;
+    uint32_t bits = 0;
+    for (unsigned c = 0; c < COLUMNS; c++) bits |= entry[LANES * SLOT_CONFIG + c] ^ once[LANES * SLOT_CONFIG + c];
+    walks[OTHER_ROWS] += entry[E_ADDRESS] % 1024 / 4 != once[E_ADDRESS] / 4;
+    walks[OTHER_COLUMN] += (entry[E_ADDRESS] >> 1 & 1) == 0 && (bits >> 5 & 1) == 1;
+}
+
+/* A step that was done: the walk before it had so many steps. */
+static void count_step(const struct walk_case *w, uint32_t kind, uint32_t before, bool changes_dst)
+{
+    const uint32_t entry = kind == FORWARD ? before : before - 1;
+    const uint32_t *insn = w->run.list + 6 * entry, *now = w->store + ENTRY * entry;
+    uint32_t *once = kept + ENTRY * entry;
+    if (kind == BACK) {
+        count_undone(now, once, insn, changes_dst);
+        return;
+    }
+    count_kept(now, once, insn);
+    memcpy(once, now, ENTRY * sizeof *now);
+    if (w->walk[W_AT] > walks[MOST_ENTRIES]) walks[MOST_ENTRIES] = w->walk[W_AT];
+}
+
+static void count_walk(const struct walk_case *c)
+{
+    static struct walk_case w;
+    static uint16_t dst[ROOM_DST];
+    struct run_case *r = &w.run;
+    uint32_t o[4], answer, last = 0;
+    unsigned long done = 0, turns = 0;
+    bool quiet = true;
+    w = *c;
+    memcpy(kept, w.store, sizeof kept);
+    count_answer(4, ind_begin(r->settings, r->image, r->image_len, r->dst_len, r->list, r->list_len, o, w.walk), NULL);
+    for (size_t i = 0; i < w.calls; i++) {
+        const uint32_t kind = w.call[i].kind, before = w.walk[W_AT];
+        memcpy(dst, r->dst, sizeof dst);
+        if (!ind_call(&w, &w.call[i], &answer)) {
+            quiet = false;
+            continue;
+        }
+        count_answer(kind == FORWARD ? 5 : 6, answer, NULL);
+        if (answer == 12) twelves[why_twelve(&w, kind)]++;
+        if (answer != 0) continue;
+        count_step(&w, kind, before, memcmp(dst, r->dst, sizeof dst) != 0);
+        turns += last != 0 && kind != last;
+        last = kind;
+        done++;
+    }
+    if (done == 0) return;
+    walks[QUIET_STEPS] += quiet ? done : 0;
+    walks[ENDS_AT_START] += w.walk[W_AT] == 0;
+    walks[ENDS_AT_END] += w.walk[W_AT] == r->list_len / 6;
+    walks[TURNS] += turns >= 4;
+    walks[STEPS_REFUSED_BEGIN] += o[O_ANSWER] != 0;
+}
+
 static void count_case(const struct any_case *c)
 {
     switch (c->kind) {
     case RUN_CASE:     count_run(&c->run); break;
     case LANE_CASE:    count_lane(&c->lane); break;
     case WRITING_CASE: count_writing(&c->writing); break;
+    case WALK_CASE:    count_walk(&c->walk); break;
     default:           count_reading(&c->reading);
     }
 }
@@ -331,10 +453,15 @@ void ind_coverage(FILE *in, FILE *out)
     ops[OPS] = "unknown";
     while (ind_next(in, &c)) count_case(&c);
 
-    fprintf(out, "answer     runs    lanes  writing  reading\n");
-    for (int a = 0; a < 12; a++)
-        fprintf(out, "%6d %8lu %8lu %8lu %8lu\n", a, t.answer[0][a], t.answer[1][a], t.answer[2][a], t.answer[3][a]);
-    fprintf(out, "   all %8lu %8lu %8lu %8lu\n", t.cases[0], t.cases[1], t.cases[2], t.cases[3]);
+    fprintf(out, "answer     runs    lanes  writing  reading    begin  forward     back\n");
+    for (int a = 0; a < 13; a++) {
+        fprintf(out, "%6d", a);
+        for (int i = 0; i < 7; i++) fprintf(out, " %8lu", t.answer[i][a]);
+        fprintf(out, "\n");
+    }
+    fprintf(out, "   all");
+    for (int i = 0; i < 7; i++) fprintf(out, " %8lu", t.cases[i]);
+    fprintf(out, "\n");
     print_by(out, "executed, by mod", ops, OPS, t.mod[0], WORDS, 0, 16);
     print_by(out, "executed, by vd", ops, OPS, t.vd[0], WORDS, 0, 16);
     print_by(out, "executed, by edition", ops, OPS, t.edition[0], WORDS, 1, 3);
@@ -349,4 +476,7 @@ void ind_coverage(FILE *in, FILE *out)
     print_by(out, "ties that runs count, by column: of all runs, and the most of one", counts, 2, t.ties[0], COLUMNS, 0, COLUMNS);
     print_lines(out, "ties, by lanes and by runs", tie_names, ties, TIES);
     print_by(out, "refused runs that count none, and would without what they are refused for, by answer", untold, 1, t.untold, 12, 1, 10);
+    print_lines(out, "steps refused by 12", twelve_names, twelves, TWELVES);
+    print_by(out, "steps back, by mod of the instruction that they go back over (the last column: mod 16 and more)", ops, OPS, t.undone[0], WORDS, 0, WORDS);
+    print_lines(out, "walks, by cells, by steps and by walks", walk_names, walks, WALKS);
 }

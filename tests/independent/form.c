@@ -1,6 +1,7 @@
 /* Cases as bytes, both ways: the form of tests/CASES.md. */
 #include "independent.h"
 
+#include <stdlib.h>
 #include <string.h>
 
 /* A number has seven bits a byte, the highest first; every byte but its last has 128 added. */
@@ -77,14 +78,26 @@ static uint16_t cell_of(void)
     return (uint16_t)(shape == 0 ? w & 0x8000 : shape == 1 ? w | 0x7FFF : w);
 }
 
+/* A change: a place, a count and a word. */
+static void fill(uint32_t *words, size_t room, const uint32_t change[3])
+{
+    for (size_t i = change[0], end = at_most(i + change[1], room); i < end; i++) words[i] = change[2];
+}
+
+static void make_change(uint32_t change[3], size_t room)
+{
+    for (int i = 0; i < 2; i++) change[i] = (uint32_t)place(room);
+    change[2] = number();
+}
+
 static void make_image(uint32_t *image)
 {
+    uint32_t change[3];
     x = number();
     for (unsigned i = 0; i < ROOM_IMAGE; i++) image[i] = word_of(i / LANES);
     for (uint32_t changes = number(); changes > 0; changes--) {
-        size_t first = place(ROOM_IMAGE), end = at_most(first + place(ROOM_IMAGE), ROOM_IMAGE);
-        uint32_t w = number();
-        for (size_t i = first; i < end; i++) image[i] = w;
+        make_change(change, ROOM_IMAGE);
+        fill(image, ROOM_IMAGE, change);
     }
 }
 
@@ -142,6 +155,68 @@ static void make_reading(struct reading_case *r)
     r->room = place(ROOM_LIST);
 }
 
+static struct call next_call(void)
+{
+    struct call c = { .kind = number() };
+    switch (c.kind) {
+    case CHANGE_STORE:   make_change(c.n, ROOM_STORE); break;
+    case CHANGE_IMAGE:   make_change(c.n, ROOM_IMAGE); break;
+    case CHANGE_WALK:
+    case CHANGE_SETTING: numbers(c.n, 2); break;
+    case CHANGE_LENGTHS: numbers(c.n, 4); break;
+    }
+    return c;
+}
+
+/* A call of another kind does nothing, and is not kept. */
+static void make_calls(struct walk_case *w)
+{
+    w->calls = 0;
+    for (uint32_t left = number(); left > 0; left--) {
+        struct call c = next_call();
+        if (c.kind == 0 || c.kind >= CALLS) continue;
+        if (w->calls == w->call_room) {
+            w->call_room = 2 * w->call_room + 32;
+            w->call = realloc(w->call, w->call_room * sizeof *w->call);
+            if (w->call == NULL) abort();
+        }
+        w->call[w->calls++] = c;
+    }
+}
+
+static void make_walk(struct walk_case *w)
+{
+    make_run(&w->run);
+    w->store_len = place(ROOM_STORE);
+    for (unsigned i = 0; i < ROOM_STORE; i++) w->store[i] = UNWRITTEN;
+    numbers(w->walk, 2);
+    make_calls(w);
+}
+
+bool ind_call(struct walk_case *w, const struct call *c, uint32_t *answer)
+{
+    struct run_case *r = &w->run;
+    switch (c->kind) {
+    case FORWARD:
+        *answer = ind_forward(r->settings, r->image, r->image_len, r->dst, r->dst_len, r->list, r->list_len, w->store, w->store_len, w->walk);
+        return true;
+    case BACK:
+        *answer = ind_back(r->settings, r->image, r->image_len, r->dst, r->dst_len, r->list, r->list_len, w->store, w->store_len, w->walk);
+        return true;
+    case CHANGE_STORE:   fill(w->store, ROOM_STORE, c->n); break;
+    case CHANGE_IMAGE:   fill(r->image, ROOM_IMAGE, c->n); break;
+    case CHANGE_WALK:    memcpy(w->walk, c->n, sizeof w->walk); break;
+    case CHANGE_SETTING: r->settings[c->n[0] % 8] = c->n[1]; break;
+    case CHANGE_LENGTHS:
+        r->image_len = at_most(c->n[0], ROOM_IMAGE);
+        r->dst_len = at_most(c->n[1], ROOM_DST);
+        r->list_len = at_most(c->n[2], ROOM_LIST);
+        w->store_len = at_most(c->n[3], ROOM_STORE);
+        break;
+    }
+    return false;
+}
+
 bool ind_next(FILE *from, struct any_case *c)
 {
     in = from;
@@ -150,6 +225,7 @@ bool ind_next(FILE *from, struct any_case *c)
     case RUN_CASE:     make_run(&c->run); break;
     case LANE_CASE:    make_lane(&c->lane); break;
     case WRITING_CASE: make_writing(&c->writing); break;
+    case WALK_CASE:    make_walk(&c->walk); break;
     default:           make_reading(&c->reading);
     }
     return true;

@@ -2,6 +2,7 @@
  *
  *   checks.c    what is refused, and in which order
  *   machine.c   the functional models of documents 000 to 004, an instruction at a time
+ *   walk.c      a list stepped through, forwards and backwards
  *   listing.c   listings read and written, and the report
  *   form.c      cases as bytes, both ways, in the form of tests/CASES.md
  *   cases.c     cases made from a seed
@@ -33,12 +34,23 @@ enum { SLOT_R11 = 8, SLOT_CONFIG = 12, SLOT_FLAG, SLOT_USE, SLOT_TEMPLATE, SLOT_
 /* An outcome: four words, and then the ties of a run, column by column, or the length of reading and writing. */
 enum { O_ANSWER, O_STEPS, O_PLACE, O_CURSOR, O_TIES, O_LENGTH = O_TIES };
 
+/* A walk: the steps done, and its cursor. An entry of its store: the image, the cursor, the address and 32 cells. */
+enum { W_AT, W_CURSOR };
+enum { E_CURSOR = IMAGE_WORDS, E_ADDRESS, E_CELLS, ENTRY = E_CELLS + LANES };
+
+/* What a lent room holds where nothing was written yet. */
+#define UNWRITTEN 2779096485u
+
 /* checks.c */
 bool ind_settings_good(const uint32_t settings[8]);
 bool ind_slot_good(unsigned slot, uint32_t word);
+bool ind_image_good(const uint32_t *image);                                         /* of IMAGE_WORDS */
 bool ind_op_known(uint32_t op);
 uint32_t ind_insn_fault(const uint32_t insn[6]);                                    /* 0, 7, 8 or 9 */
 uint32_t ind_list_fault(const uint32_t *list, size_t count, uint32_t *place);       /* the first faulty instruction decides */
+uint32_t ind_lent_fault(const uint32_t settings[8], const uint32_t *image, size_t image_len, size_t dst_len, size_t list_len);
+uint32_t ind_run_fault(const uint32_t settings[8], const uint32_t *image, size_t image_len, size_t dst_len,
+                       const uint32_t *list, size_t list_len, uint32_t *place);
 
 /* machine.c */
 float ind_float_of(uint32_t bits);
@@ -48,6 +60,14 @@ uint32_t ind_run(const uint32_t settings[8], uint32_t *image, size_t image_len, 
 uint32_t ind_lane(const uint32_t settings[8], uint32_t lane, const uint32_t insn[6], uint32_t own[24], const uint32_t head[24],
                   uint16_t cells[2]);                               /* the even one and the odd one */
 
+/* walk.c: begin looks at no cell, and back writes nothing to the store */
+uint32_t ind_begin(const uint32_t settings[8], const uint32_t *image, size_t image_len, size_t dst_len,
+                   const uint32_t *list, size_t list_len, uint32_t outcome[4], uint32_t walk[2]);
+uint32_t ind_forward(const uint32_t settings[8], uint32_t *image, size_t image_len, uint16_t *dst, size_t dst_len,
+                     const uint32_t *list, size_t list_len, uint32_t *store, size_t store_len, uint32_t walk[2]);
+uint32_t ind_back(const uint32_t settings[8], uint32_t *image, size_t image_len, uint16_t *dst, size_t dst_len,
+                  const uint32_t *list, size_t list_len, const uint32_t *store, size_t store_len, uint32_t walk[2]);
+
 /* listing.c */
 extern const char *const ind_names[OPS];
 uint32_t ind_read(const uint8_t *text, size_t text_len, uint32_t *list, size_t list_len, uint32_t settings[8], uint32_t outcome[5]);
@@ -55,8 +75,9 @@ uint32_t ind_write(const uint32_t settings[8], const uint32_t *list, size_t list
 void ind_replay(FILE *in, FILE *out);
 
 /* form.c: the largest sizes are in tests/CASES.md. */
-enum { RUN_CASE = 1, LANE_CASE, WRITING_CASE, READING_CASE };
-enum { ROOM_IMAGE = 1024, ROOM_DST = 16400, ROOM_LIST = 6160, ROOM_TEXT = 65700 };
+enum { RUN_CASE = 1, LANE_CASE, WRITING_CASE, READING_CASE, WALK_CASE };
+enum { ROOM_IMAGE = 1024, ROOM_DST = 16400, ROOM_LIST = 6160, ROOM_TEXT = 65700, ROOM_STORE = 40 * ENTRY + 10 };
+enum { FORWARD = 1, BACK, CHANGE_STORE, CHANGE_IMAGE, CHANGE_WALK, CHANGE_SETTING, CHANGE_LENGTHS, CALLS };
 
 struct run_case {
     uint32_t settings[8], list[ROOM_LIST], image[ROOM_IMAGE];
@@ -80,19 +101,34 @@ struct reading_case {
     size_t text_len, room;
 };
 
+/* A call of a walk, and its numbers. From CHANGE_STORE on it is none of the replay's, but what a host does to what it lends. */
+struct call {
+    uint32_t kind, n[4];
+};
+
+struct walk_case {
+    struct run_case run;                                /* what is lent, but for the store */
+    uint32_t store[ROOM_STORE], walk[2];
+    size_t store_len;
+    struct call *call;
+    size_t calls, call_room;                            /* how many there are, and how many there is room for */
+};
+
 struct any_case {
     uint32_t kind;
     struct run_case run;
     struct lane_case lane;
     struct writing_case writing;
     struct reading_case reading;
+    struct walk_case walk;
 };
 
 void ind_put(FILE *out, uint32_t n);
 bool ind_next(FILE *from, struct any_case *c);          /* whether there is one more; what is written is kept for the readings after it */
+bool ind_call(struct walk_case *w, const struct call *c, uint32_t *answer);     /* whether it is a step, which answers */
 
 /* cases.c */
-void ind_cases(uint32_t seed, uint32_t runs, uint32_t lanes, uint32_t listings, FILE *out);
+void ind_cases(uint32_t seed, uint32_t runs, uint32_t lanes, uint32_t listings, uint32_t walks, FILE *out);
 
 /* answers.c */
 void ind_answers(FILE *in, FILE *out);

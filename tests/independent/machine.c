@@ -397,24 +397,10 @@ static void set_up(struct machine *m, const uint32_t settings[8])
     for (int i = 0; i < 4; i++) m->stride[i] = settings[S_STRIDE0 + i];
 }
 
-static uint32_t refuse_run(const uint32_t settings[8], const uint32_t *image, size_t image_len, size_t dst_len,
-                           const uint32_t *list, size_t list_len, uint32_t *place)
-{
-    *place = 0;
-    if (image_len != IMAGE_WORDS) return 1;
-    if (dst_len != DST_CELLS) return 2;
-    if (!ind_settings_good(settings)) return 3;
-    if (list_len % 6 != 0) return 4;
-    if (list_len / 6 > MAX_INSNS) return 5;
-    for (unsigned i = 0; i < IMAGE_WORDS; i++)
-        if (!ind_slot_good(i / LANES, image[i])) return 6;
-    return ind_list_fault(list, list_len / 6, place);
-}
-
 uint32_t ind_run(const uint32_t settings[8], uint32_t *image, size_t image_len, uint16_t *dst, size_t dst_len,
                  const uint32_t *list, size_t list_len, uint32_t outcome[12])
 {
-    uint32_t place, answer = refuse_run(settings, image, image_len, dst_len, list, list_len, &place);
+    uint32_t place, answer = ind_run_fault(settings, image, image_len, dst_len, list, list_len, &place);
     outcome[O_ANSWER] = answer;
     outcome[O_STEPS] = 0;
     outcome[O_PLACE] = place;

@@ -8,12 +8,12 @@
 
 static int usage(void)
 {
-    fprintf(stderr, "usage: independent cases SEED RUNS LANES LISTINGS     makes cases, on standard output\n"
-                    "       independent answers                            cases on standard input, a line for each call\n"
-                    "       independent show LINE                          the case that the line is of\n"
-                    "       independent coverage                           what the cases meet\n"
-                    "       independent replay                             a listing on standard input, the report on standard output\n"
-                    "       independent selftest                           document 01's examples\n");
+    fprintf(stderr, "usage: independent cases SEED RUNS LANES LISTINGS WALKS     makes cases, on standard output\n"
+                    "       independent answers                                  cases on standard input, a line for each\n"
+                    "       independent show LINE                                the case that the line is of\n"
+                    "       independent coverage                                 what the cases meet\n"
+                    "       independent replay                                   a listing on standard input, the report on standard output\n"
+                    "       independent selftest                                 document 01's examples, and what document 02 changes\n");
     return 2;
 }
 
@@ -30,11 +30,11 @@ static bool number(const char *text, uint32_t *value)
 int main(int argc, char **argv)
 {
     const char *command = argc > 1 ? argv[1] : "";
-    uint32_t n[4];
+    uint32_t n[5];
 
     for (int i = 2; i < argc; i++)
-        if (i > 5 || !number(argv[i], &n[i - 2])) return usage();
-    if (strcmp(command, "cases") == 0 && argc == 6) ind_cases(n[0], n[1], n[2], n[3], stdout);
+        if (i > 6 || !number(argv[i], &n[i - 2])) return usage();
+    if (strcmp(command, "cases") == 0 && argc == 7) ind_cases(n[0], n[1], n[2], n[3], n[4], stdout);
     else if (strcmp(command, "answers") == 0 && argc == 2) ind_answers(stdin, stdout);
     else if (strcmp(command, "show") == 0 && argc == 3) return ind_show(stdin, n[0], stdout) ? 0 : 1;
     else if (strcmp(command, "coverage") == 0 && argc == 2) ind_coverage(stdin, stdout);

@@ -1,4 +1,4 @@
-/* Document 01's examples and the readings it warns of, and what document 02 changes, one assertion each; all by way of the four calls a host has. */
+/* Document 01's examples and the readings it warns of, and what document 02 changes, one assertion each; all by way of the calls that a host has. */
 #include "independent.h"
 
 #include <inttypes.h>
@@ -671,6 +671,274 @@ static void ties_refused(void)
     CHECK(run(2) == 0 && is(0, 2, 0, 6) && all_are(8));
 }
 
+/* Walks (M-103) */
+
+static uint32_t store_words[ROOM_STORE], walk[2];
+
+/* What is lent as it was, to see what a step leaves alone. */
+static struct {
+    uint32_t image[ROOM_IMAGE], store[ROOM_STORE], walk[2];
+    uint16_t dst[ROOM_DST];
+} was;
+
+static void look(void)
+{
+    memcpy(was.image, image, sizeof image);
+    memcpy(was.dst, dst, sizeof dst);
+    memcpy(was.store, store_words, sizeof store_words);
+    memcpy(was.walk, walk, sizeof walk);
+}
+
+static bool same_image(void) { return memcmp(was.image, image, sizeof image) == 0; }
+static bool same_dst(void) { return memcmp(was.dst, dst, sizeof dst) == 0; }
+static bool same_store(void) { return memcmp(was.store, store_words, sizeof store_words) == 0; }
+static bool same(void) { return same_image() && same_dst() && same_store() && memcmp(was.walk, walk, sizeof walk) == 0; }
+
+/* An image of words that differ wherever they may, all lanes enabled; cells that differ; a store in which nothing is written; and a walk that is none. */
+static void lend(void)
+{
+    fresh();
+    for (uint32_t i = 0; i < ROOM_IMAGE; i++) image[i] = i % 768 / 32 >= SLOT_CONFIG && i % 768 / 32 <= SLOT_USE ? 0 : i + 1000;
+    for (uint32_t i = 0; i < ROOM_DST; i++) dst[i] = (uint16_t)(i + 7);
+    for (uint32_t i = 0; i < ROOM_STORE; i++) store_words[i] = 0xA5A5A5A5;
+    walk[0] = 77, walk[1] = 7777;
+}
+
+/* Of the first so many instructions, and with a store of so many words. */
+static uint32_t begin(size_t count)
+{
+    memset(outcome, 0xA5, sizeof outcome);
+    uint32_t answer = ind_begin(settings, image, 768, 16384, list, 6 * count, outcome, walk);
+    CHECK(answer == outcome[O_ANSWER] && outcome[4] == 0xA5A5A5A5);
+    return answer;
+}
+
+static uint32_t forward(size_t count, size_t room) { return ind_forward(settings, image, 768, dst, 16384, list, 6 * count, store_words, room, walk); }
+static uint32_t back(size_t count, size_t room) { return ind_back(settings, image, 768, dst, 16384, list, 6 * count, store_words, room, walk); }
+
+static bool walk_is(uint32_t at, uint32_t cursor) { return walk[0] == at && walk[1] == cursor; }
+
+/* Whether the two are refused so, and nothing changes. */
+static bool both_refused(uint32_t answer, size_t image_len, size_t dst_len, size_t list_len, size_t room)
+{
+    look();
+    uint32_t f = ind_forward(settings, image, image_len, dst, dst_len, list, list_len, store_words, room, walk);
+    bool good = f == answer && same();
+    uint32_t b = ind_back(settings, image, image_len, dst, dst_len, list, list_len, store_words, room, walk);
+    return good && b == answer && same();
+}
+
+static bool refused_forward(uint32_t answer, size_t count, size_t room) { return look(), forward(count, room) == answer && same(); }
+static bool refused_back(uint32_t answer, size_t count, size_t room) { return look(), back(count, room) == answer && same(); }
+
+static void beginnings(void)
+{
+    lend();
+    settings[S_CURSOR] = 1023;
+    nops(0, 1025);
+    look();
+    CHECK(begin(1024) == 0 && is(0, 0, 0, 1023) && walk_is(0, 1023));
+    CHECK(begin(0) == 0 && is(0, 0, 0, 1023) && same_image() && same_dst());
+    walk[0] = 77, walk[1] = 7777;
+    CHECK(begin(1025) == 5 && is(5, 0, 0, 1023) && same());
+    list[6 * 7 + F_MOD] = 1;
+    CHECK(begin(8) == 8 && is(8, 0, 7, 1023) && same());
+    list[6 * 7] = 17;
+    CHECK(begin(8) == 7 && is(7, 0, 7, 1023) && same());
+    put_insn(7, LOAD, 0, 0, 0, 12);
+    CHECK(begin(8) == 9 && is(9, 0, 7, 1023) && same());
+    CHECK(begin(7) == 0 && walk_is(0, 1023));
+
+    /* In the order of a run: all that is wrong is put right in turn. */
+    lend();
+    settings[S_CURSOR] = 1024, image[736] = 4096;
+    look();
+    CHECK(ind_begin(settings, image, 769, 0, list, 6151, outcome, walk) == 1 && is(1, 0, 0, 1024) && same());
+    CHECK(ind_begin(settings, image, 768, 0, list, 6151, outcome, walk) == 2 && is(2, 0, 0, 1024) && same());
+    CHECK(ind_begin(settings, image, 768, 16384, list, 6151, outcome, walk) == 3 && is(3, 0, 0, 1024) && same());
+    settings[S_CURSOR] = 3;
+    CHECK(ind_begin(settings, image, 768, 16384, list, 6151, outcome, walk) == 4 && is(4, 0, 0, 3) && same());
+    CHECK(begin(1025) == 5 && is(5, 0, 0, 3) && same());
+    CHECK(begin(8) == 6 && is(6, 0, 0, 3) && same());
+}
+
+/* Every word of an entry, of a STORE's and of two others'. */
+static void entries(void)
+{
+    lend();
+    settings[S_OFFSET] = 1000, settings[S_CURSOR] = 1000, settings[S_STRIDE0 + 2] = 100;
+    image[LANES * SLOT_CONFIG + 3] = image[LANES * SLOT_CONFIG + 10] = 1 << 5;      /* lane 3 is in row 0, lane 10 is not */
+    image[LANES * SLOT_USE + 12] = 1;
+    put_insn(0, STORE, 57, 2, 15, 6);          /* 57 + 1000 + 1000 = 9 + 2048 */
+    put_insn(1, LOADI, 65535, 0, 1, 10);        /* 65535 + 1000 + (1100 - 1024) = 66611 = 51 + 65 x 1024 */
+    put_insn(2, NOP, 0, 0, 0, 0);               /* 1000 + 76 = 52 + 1024 */
+    CHECK(begin(3) == 0 && walk_is(0, 1000));
+    settings[S_CURSOR] = 5;                     /* the walk's cursor counts now */
+
+    look();
+    CHECK(forward(3, ROOM_STORE) == 0 && walk_is(1, 76) && same_image());
+    for (uint32_t i = 0; i < 768; i++) CHECK(store_words[i] == image[i]);
+    CHECK(store_words[768] == 1000 && store_words[769] == 9);
+    for (uint32_t l = 0; l < 32; l++) {
+        uint32_t place = (8 + l / 8) * 16 + l % 8 * 2 + (l % 8 == 3);
+        CHECK(store_words[770 + l] == place + 7);               /* lane 12's too */
+        CHECK(dst[place] == (l == 12 ? place + 7 : 2 * l));
+    }
+    for (uint32_t i = 802; i < ROOM_STORE; i++) CHECK(store_words[i] == 0xA5A5A5A5);
+    CHECK(cells_changed(was.dst) == 31);
+
+    look();
+    CHECK(forward(3, ROOM_STORE) == 0 && walk_is(2, 76) && same_dst() && image[32 + 5] == 65535 && image[32 + 12] == 1044);
+    for (uint32_t i = 0; i < 768; i++) CHECK(store_words[802 + i] == was.image[i]);
+    CHECK(store_words[802 + 768] == 76 && store_words[802 + 769] == 51);
+    for (uint32_t l = 0; l < 32; l++) CHECK(store_words[802 + 770 + l] == 0);
+    CHECK(memcmp(store_words, was.store, 802 * sizeof *store_words) == 0 && store_words[1604] == 0xA5A5A5A5);
+
+    look();
+    CHECK(forward(3, ROOM_STORE) == 0 && walk_is(3, 76) && same_image() && same_dst() && store_words[1604 + 768] == 76 && store_words[1604 + 769] == 52);
+
+    /* Back over the three: the store stays, and what it has is brought back. */
+    look();
+    CHECK(back(3, ROOM_STORE) == 0 && walk_is(2, 76) && same_image() && same_dst() && same_store());
+    CHECK(back(3, ROOM_STORE) == 0 && walk_is(1, 76) && image[32 + 5] == 1037 && same_dst() && same_store());
+    CHECK(back(3, ROOM_STORE) == 0 && walk_is(0, 1000) && same_store());
+    for (uint32_t i = 0; i < DST_CELLS; i++) CHECK(dst[i] == i + 7);
+
+    /* The room is used again. */
+    settings[S_OFFSET] = 0;
+    CHECK(forward(3, ROOM_STORE) == 0 && walk_is(1, 76) && store_words[769] == 33 && store_words[770] == 32 * 16 + 7 && store_words[802 + 769] == 51);
+}
+
+static void both_ends(void)
+{
+    lend();
+    put_insn(0, STORE, 4, 0, 10, 7), put_insn(1, LOAD, 4, 0, 0, 7);
+    CHECK(begin(2) == 0 && refused_back(12, 2, ROOM_STORE));
+    CHECK(forward(2, ROOM_STORE) == 0 && forward(2, ROOM_STORE) == 0 && walk_is(2, 0) && image[9] == 0x3F800000);
+    for (uint32_t l = 0; l < 32; l++) CHECK(store_words[770 + l] != 0 && store_words[802 + 770 + l] == 0);      /* the same address, but LOAD's */
+    CHECK(refused_forward(12, 2, ROOM_STORE) && refused_forward(12, 1, ROOM_STORE) && refused_back(12, 1, ROOM_STORE));
+    CHECK(back(2, ROOM_STORE) == 0 && back(2, ROOM_STORE) == 0 && walk_is(0, 0) && refused_back(12, 2, ROOM_STORE));
+    CHECK(begin(0) == 0 && refused_forward(12, 0, ROOM_STORE) && refused_back(12, 0, ROOM_STORE));
+    walk[0] = 3;
+    CHECK(refused_forward(12, 2, ROOM_STORE) && refused_back(12, 2, ROOM_STORE));
+    walk[0] = 4294967295;
+    CHECK(refused_forward(12, 2, ROOM_STORE) && refused_back(12, 2, ROOM_STORE));
+
+    /* A word too few: forward needs an entry's words beside those that are kept, back the kept ones. */
+    CHECK(begin(2) == 0 && refused_forward(12, 2, 0) && refused_forward(12, 2, 801) && forward(2, 802) == 0);
+    CHECK(refused_forward(12, 2, 802) && refused_forward(12, 2, 1603) && forward(2, 1604) == 0);
+    CHECK(refused_back(12, 2, 1603) && refused_back(12, 2, 0) && back(2, 1604) == 0);
+    CHECK(refused_back(12, 2, 801) && back(2, 802) == 0 && walk_is(0, 0));
+}
+
+static void refused_steps(void)
+{
+    /* 1, 2, ... in turn, while all that comes after is wrong too. The walk's cursor is a 3, and the settings' own. */
+    lend();
+    settings[S_STRIDE0] = 1024, image[LANES * SLOT_FLAG] = 2;
+    CHECK(both_refused(1, 767, 0, 6151, 0) && both_refused(1, 0, 0, 6151, 0) && both_refused(2, 768, 16385, 6151, 0));
+    CHECK(both_refused(3, 768, 16384, 6151, 0));
+    settings[S_STRIDE0] = 0;
+    CHECK(both_refused(3, 768, 16384, 6151, 0));
+    settings[S_CURSOR] = 1024, walk[1] = 1023;
+    CHECK(both_refused(3, 768, 16384, 6151, 0));
+    settings[S_CURSOR] = 0;
+    CHECK(both_refused(4, 768, 16384, 6151, 0) && both_refused(5, 768, 16384, 6150, 0) && both_refused(6, 768, 16384, 6144, 0));
+    image[LANES * SLOT_FLAG] = 1;
+    CHECK(both_refused(12, 768, 16384, 6144, 0));
+    walk[1] = 1024;
+    CHECK(both_refused(3, 768, 16384, 0, 0));
+
+    /* 12 before 7, 8 and 9, which are of the instruction at hand alone; back asks only whether it is a STORE. */
+    lend();
+    put_insn(0, STORE, 4, 0, 10, 7), put_insn(1, 17, 0, 0, 0, 0), put_insn(2, STORE, 4, 0, 10, 3);
+    CHECK(begin(3) == 7 && is(7, 0, 1, 0));
+    walk[0] = 0, walk[1] = 0;
+    CHECK(forward(3, ROOM_STORE) == 0 && walk_is(1, 0));
+    CHECK(refused_forward(12, 3, 1603) && refused_forward(7, 3, 1604));
+    put_insn(1, NOP, 0, 0, 0, 1);
+    CHECK(refused_forward(12, 3, 1603) && refused_forward(8, 3, 1604));
+    put_insn(1, LOAD, 0, 0, 0, 4);
+    CHECK(refused_forward(12, 3, 1603) && refused_forward(9, 3, 1604));
+    memcpy(store_words + 1604, store_words, 802 * sizeof *store_words);
+    store_words[1604 + 770] = 0xBEEF;
+    walk[0] = 3;
+    CHECK(back(3, 2406) == 0 && walk_is(2, 0) && dst[4 * 16] == 0xBEEF && dst[4 * 16 + 2] == 4 * 16 + 2 + 7);
+    put_insn(1, 16 + 65536, 4, 0, 10, 7);
+    memcpy(store_words + 802, store_words, 802 * sizeof *store_words);
+    look();
+    CHECK(back(3, 2406) == 0 && walk_is(1, 0) && same_dst() && dst[4 * 16] == 0xBEEF);
+}
+
+/* An entry that the host has changed is taken as it is. */
+static void damaged_entries(void)
+{
+    lend();
+    put_insn(0, STORE, 8, 0, 10, 7), put_insn(1, NOP, 0, 0, 0, 0);
+    CHECK(begin(2) == 0 && forward(2, ROOM_STORE) == 0 && dst[8 * 16] == 0x3F80);
+    store_words[768] = 4294967295, store_words[769] = 0u - 1021, store_words[770] = 0xABCDEF01, store_words[LANES * SLOT_MISC] = 99999;
+    look();
+    CHECK(back(2, ROOM_STORE) == 0 && walk_is(0, 4294967295) && same_store());
+    CHECK(dst[1] == 0xEF01 && dst[3] == 8 * 16 + 2 + 7);        /* address 3 mod 1024: rows 0 to 3, odd columns */
+    CHECK(dst[8 * 16] == 0x3F80 && cells_changed(was.dst) == 32);
+    CHECK(image[LANES * SLOT_MISC] == 99999 && refused_forward(3, 2, ROOM_STORE) && refused_back(3, 2, ROOM_STORE));
+    walk[1] = 0;
+    CHECK(refused_forward(6, 2, ROOM_STORE) && refused_back(6, 2, ROOM_STORE));
+
+    /* The column is by bit 5 of the entry's image, not of the one that it takes the place of. A lane need not be enabled. */
+    lend();
+    image[LANES * SLOT_USE + 9] = 1;
+    CHECK(begin(2) == 0 && forward(2, ROOM_STORE) == 0 && dst[8 * 16] == 0x3F80 && dst[8 * 16 + 4] == 0x3F80);
+    store_words[LANES * SLOT_CONFIG + 2] = 1 << 5, store_words[770 + 9] = 0xBEEF, image[LANES * SLOT_CONFIG] = 1 << 5;
+    CHECK(back(2, ROOM_STORE) == 0 && dst[8 * 16] == 8 * 16 + 7 && dst[8 * 16 + 4] == 0x3F80 && dst[8 * 16 + 5] == 8 * 16 + 4 + 7);
+    CHECK(dst[9 * 16 + 2] == 0xBEEF);
+
+    /* The cells of another op's entry mean nothing, and its image is brought back all the same. */
+    lend();
+    put_insn(0, NOP, 0, 0, 0, 0);
+    CHECK(begin(2) == 0 && forward(2, ROOM_STORE) == 0);
+    store_words[5] = 123, store_words[770] = 456;
+    look();
+    CHECK(back(2, ROOM_STORE) == 0 && image[5] == 123 && same_dst());
+}
+
+/* Wherever steps lead, it is where a run of so many instructions ends. */
+static void walks_as_runs(void)
+{
+    static const uint32_t insns[][6] = {
+        { STORE, 40, 0, 0, 3, 2 }, { LOADI, 65535, 0, 0, 3, 8 }, { STORE, 40, 1, 0, 3, 7 }, { LOAD, 37, 2, 0, 4, 9 }, { CONFIG, 32, 0, 0, 15, 7 },
+        { STORE, 32, 0, 0, 4, 6 }, { IADD, 4095, 0, 3, 3, 1 }, { STORE, 36, 3, 0, 15, 9 }, { SWAP, 0, 0, 3, 4, 1 }, { EXEXP, 0, 0, 4, 5, 10 },
+        { STORE, 33, 0, 0, 5, 2 }, { CONFIG, 0, 0, 0, 12, 1 }, { STORE, 34, 0, 0, 12, 7 }, { LUT, 0, 0, 0, 2, 4 }, { NOT, 0, 0, 2, 1, 0 },
+    };
+    enum { COUNT = sizeof insns / sizeof *insns };
+    static uint32_t first_image[ROOM_IMAGE];
+    static uint16_t first_dst[ROOM_DST];
+    uint32_t x = 1, done = 0, most = 0;
+    lend();
+    settings[S_OFFSET] = 1000, settings[S_CURSOR] = 1023, settings[S_STRIDE0 + 1] = 4, settings[S_STRIDE0 + 3] = 1021;
+    for (uint32_t l = 0; l < LANES; l++) image[LANES * SLOT_CONFIG + l] = l % 3 << 5, image[LANES * SLOT_USE + l] = l % 5 == 0, image[LANES * SLOT_FLAG + l] = l % 2;
+    memcpy(list, insns, sizeof insns);
+    memcpy(first_image, image, sizeof image);
+    memcpy(first_dst, dst, sizeof dst);
+    CHECK(begin(COUNT) == 0);
+    for (int steps = 0; steps < 600; steps++) {
+        x = x * 1664525 + 1013904223;
+        if (x >> 16 & 1) {
+            CHECK(forward(COUNT, 802 * COUNT) == (done < COUNT ? 0 : 12));
+            done += done < COUNT;
+        } else {
+            CHECK(back(COUNT, 802 * COUNT) == (done > 0 ? 0 : 12));
+            done -= done > 0;
+        }
+        if (done > most) most = done;
+        look();
+        memcpy(image, first_image, sizeof image);
+        memcpy(dst, first_dst, sizeof dst);
+        CHECK(run(done) == 0 && same_image() && same_dst() && walk_is(done, outcome[O_CURSOR]));
+    }
+    CHECK(most == COUNT);
+}
+
 /* Listings */
 
 static const char worked[] =
@@ -825,6 +1093,12 @@ int ind_selftest(void)
     which_lanes_tie();
     ties_over_a_list();
     ties_refused();
+    beginnings();
+    entries();
+    both_ends();
+    refused_steps();
+    damaged_entries();
+    walks_as_runs();
     listings();
     if (failures == 0) printf("selftest: all good\n");
     return failures == 0 ? 0 : 1;

@@ -1,6 +1,6 @@
 -- A walk over one STORE, of register 15, which holds twice the lane number, to a Dst of zeros: forward, back, and back once more. Assumes nothing.
 use mathlib.Core.Path.{_≡_, refl, sym, ap, _∙_}
-use Prim.Native.Nat.{ℕ, zero, suc, _+_, _%_, _^_, _<_, _≤_}
+use Prim.Native.Nat.{ℕ, zero, suc, _%_, _^_, _<_, _≤_}
 use native.Mathlib.Nat.{lt-of-not-le}
 use native.Mathlib.Decide.{decLe}
 use native.Mathlib.Omega.{arith}
@@ -10,24 +10,23 @@ use lib.ListN.{length, getD, List·getD-eq-default}
 use lib.Dec.{eqb}
 use borrow.Author.Tests.{eqb-false}
 use Rattle.lane.specs.declared.Insn.{Insn}
-use Rattle.lane.specs.declared.Cells.{Cells}
 use Rattle.lane.specs.Words.{pick, bit, Lane, build, fixedWord, reg, enabled}
 use Rattle.lane.specs.Load.{isOdd, isMet, ownerOf}
 use Rattle.lane.specs.Store.{cells, withCell, storedCell, store}
 use Rattle.lane.specs.Rule.{cellsOf}
-use Rattle.lane.specs.Refusals.{pass, settingsGood, fieldsGood, instructionAnswer}
+use Rattle.lane.specs.Refusals.{pass, fieldsGood, instructionAnswer}
 use Rattle.lane.proofs.Places.{even-place}
 use Rattle.lane.proofs.Cases.{pick-lt}
 use Rattle.lane.proofs.Stores.{length-build, getD-build}
 use Rattle.runner.specs.declared.Found.{Found}
 use Rattle.runner.specs.Image.{laneIn, ofLanes}
 use Rattle.runner.specs.Checks.{insnAt, runAnswer}
-use Rattle.runner.specs.Run.{Machine, evenCell, oddCell, withCells, cellsAfter, dstAt, dstAfter, stepped, steps, begin}
+use Rattle.runner.specs.Run.{cellsAfter, dstAt, dstAfter, stepped, steps, begin}
 use Rattle.runner.specs.Walk as Walk
-use Rattle.runner.proofs.Lanes.{lane-of-lanes, length-lanes}
-use Rattle.runner.proofs.Dsts.{ownCell, length-cells, cell-at, cell-of}
+use Rattle.runner.proofs.Lanes.{lane-of-lanes}
+use Rattle.runner.proofs.Dsts.{length-cells, cell-at, cell-of}
 use Rattle.runner.proofs.Accepted.{Each, run-accepted}
-use Rattle.runner.proofs.Walks.{next-good, called-done, called-refused}
+use Rattle.runner.proofs.Walks.{called-done, called-refused}
 use Rattle.claims.specs.Twelve.{plainly}
 use Rattle.claims.specs.Claims.{SixteenBits, Event, startOf, Walked, WalkOverStore}
 use Rattle.claims.proofs.Instance.{zeros, zeros-formed, good-settings}
@@ -154,11 +153,11 @@ unfolding Walk.begun
 not-yet = record { began = accepts; cells = empty-fits; made = tt }
 
 went-over : Walk.Called Walk.forward plainly one-list start 0 there
-unfolding Walk.callAnswer Walk.forwardAnswer Walk.moved Walk.begun start there room
+unfolding Walk.callAnswer Walk.nextAnswer Walk.moved Walk.begun start there room pass pick
 went-over =
     called-done Walk.forward plainly one-list start 0
-    (next-good 0 one-list 802 0 (omega arith) (omega arith) (sym (one-good 0 (omega arith)))
-    ∙ ap (λ (n : ℕ). Walk.nextAnswer 0 one-list n) (sym (length-build 802 (λ p. 0)))
+    (sym (one-good 0 (omega arith))
+    ∙ ap (λ (n : ℕ). pass (Walk.mayForward 0 1 n) 12 (instructionAnswer true (insnAt one-list 0))) (sym (length-build 802 (λ p. 0)))
     ∙ sym (first-none (Walk.lentAnswer plainly one-list (start .machine)) _ (none-lent plainly (ofLanes zeros) empty one-list room [] not-yet)))
     there refl refl
 
@@ -179,12 +178,12 @@ kept-long =
 home-is : home .machine ≡ begin plainly (ofLanes zeros) empty
 unfolding home there start Walk.backed Walk.forwarded Walk.begun steps insnAt room
 home-is =
-    ap (λ (e : List ℕ). Walk.broughtBack 16 e (stepped plainly (insnAt one-list 0) (begin plainly (ofLanes zeros) empty)))
+    ap (λ (e : List ℕ). Walk.broughtBack 16 e (stepped plainly (insnAt one-list 0) (begin plainly (ofLanes zeros) empty) .dst))
     (entry-own 0 _ (build 802 (λ p. 0)) (next-long plainly one-list (begin plainly (ofLanes zeros) empty) (zeros-formed .long) empty-long 0) (omega (arith, length-build 802 (λ p. 0))))
     ∙ returned plainly (insnAt one-list 0) (begin plainly (ofLanes zeros) empty) (zeros-formed .long) empty-long empty-fits
 
 went-back : Walk.Called Walk.back plainly one-list there 0 home
-unfolding Walk.callAnswer Walk.backAnswer Walk.lastAnswer Walk.moved pass pick home over there Walk.forwarded start Walk.begun
+unfolding Walk.callAnswer Walk.lastAnswer Walk.moved pass pick home over there Walk.forwarded start Walk.begun
 went-back =
     called-done Walk.back plainly one-list there 0
     (ap (λ (n : ℕ). pass (Walk.mayBack (there .done) 1 n) 12 0) (sym kept-long)
@@ -199,7 +198,7 @@ unfolding start over back-home
 walked-back = record { began = not-yet .began; cells = empty-fits; made = (went-over, (went-back, tt)) }
 
 refused-back : Walk.Called Walk.back plainly one-list home 12 home
-unfolding Walk.callAnswer Walk.backAnswer Walk.lastAnswer Walk.backed pass pick home over back-home there Walk.forwarded start Walk.begun
+unfolding Walk.callAnswer Walk.lastAnswer Walk.backed pass pick home over back-home there Walk.forwarded start Walk.begun
 refused-back =
     called-refused Walk.back plainly one-list home 12
     (sym (first-none (Walk.lentAnswer plainly one-list (home .machine)) _ (none-lent plainly (ofLanes zeros) empty one-list room (over ∷ back-home ∷ []) walked-back)))

@@ -1,26 +1,25 @@
 -- A walk forward and back: what an entry brings back, and where a walk stands after any calls. Assumes nothing.
 use mathlib.Core.Path.{_≡_, refl, sym, ap, subst, _∙_}
-use Prim.Native.Nat.{ℕ, zero, suc, _+_, _-_, _*_, _/_, _%_, _^_, _<_, _≤_}
+use Prim.Native.Nat.{ℕ, suc, _+_, _-_, _*_, _%_, _^_, _<_, _≤_}
 use native.Mathlib.Nat.{mod-eq-of-lt}
 use native.Mathlib.Numerals.{add-one}
 use native.Mathlib.Decide.{ℕ-discrete}
 use native.Mathlib.Omega.{arith}
-use mathlib.Core.Bool.{Bool, true, false, _&&_}
+use mathlib.Core.Bool.{Bool, true, false}
 use mathlib.Core.List.{List, [], _∷_, _++_}
 use mathlib.Core.Logic.{_⊎_, inl, inr}
 use lib.ListN.{length, getD, take, drop, length-append, length-drop, take-append-drop}
 use lib.Seq.{take-at, drop-at, getD-at, getD-append-add, length-take-le, drop-append-le, take-append-le}
-use lib.Dec.{eqb, ltb, leb}
-use borrow.Author.Tests.{eq-eqb, ne-eqb, ltb-true}
+use lib.Dec.{eqb, leb}
+use borrow.Author.Tests.{eq-eqb, ne-eqb}
 use Rattle.lane.specs.declared.Settings.{Settings}
 use Rattle.lane.specs.declared.Insn.{Insn}
 use Rattle.lane.specs.declared.Cells.{Cells}
-use Rattle.lane.specs.Words.{pick, bit, flagOf, laneConfig, build, reg, enabled}
+use Rattle.lane.specs.Words.{pick, bit, flagOf, laneConfig, reg, enabled}
 use Rattle.lane.specs.Load.{address, isMet}
 use Rattle.lane.specs.Store.{cells, withCell, storedCell, store}
-use Rattle.lane.specs.Refusals.{pass, instructionAnswer}
+use Rattle.lane.specs.Refusals.{pass}
 use Rattle.lane.proofs.Accepted.{settings-in-range}
-use Rattle.lane.proofs.Tables.{and-left}
 use Rattle.lane.proofs.Cases.{pick-true, pick-false, pick-lt}
 use Rattle.lane.proofs.Places.{flag-true, flag-false}
 use Rattle.lane.proofs.Stores.{length-build, getD-build, build-same}
@@ -32,7 +31,7 @@ use Rattle.runner.specs.Walk as Walk
 use Rattle.runner.proofs.Accepted as Checks
 use Rattle.runner.proofs.Dsts.{ownCell, cellsIn, cell-at, cell-of, cells-same, own-cells, dst-kept}
 use Rattle.runner.proofs.Steps.{store-cells}
-use Rattle.runner.proofs.Walks.{Forward, Back, forward-good, back-good, passed-lent}
+use Rattle.runner.proofs.Walks.{Forward, forward-good, back-good, passed-lent, under, machine-is}
 use Rattle.claims.specs.Claims.{SixteenBits, Event, Made, lastOf, stepsOf, accepted, StandsAt, startOf, Walked}
 use Rattle.claims.proofs.Kept.{good-steps, length-steps, length-dst-steps}
 use Rattle.claims.proofs.Runs as Runs
@@ -150,12 +149,9 @@ module _ (i : Insn) (a : ℕ) (m : Machine) (long : length (m .image) ≡ 768) (
       go (yes o) = pick-true (eqb (i .op) 16) (Walk.withKept kept left) left (eq-eqb (i .op) 16 o) ∙ dst-store o
       go (no n) = pick-false (eqb (i .op) 16) (Walk.withKept kept left) left (ne-eqb (i .op) 16 n) ∙ sym (dst-kept i a (m .image) (m .dst) n wide)
 
-machine-is : (m : Machine) (cursor : ℕ) (image dst : List ℕ) → cursor ≡ m .cursor → image ≡ m .image → dst ≡ m .dst → record { image = image; dst = dst; cursor = cursor } ≡ m
-machine-is m cursor image dst p q r = ap (λ (n : ℕ). record { image = image; dst = dst; cursor = n }) p ∙ ap (λ (x : List ℕ). record { image = x; dst = dst; cursor = m .cursor }) q ∙ ap (λ (x : List ℕ). record { image = m .image; dst = x; cursor = m .cursor }) r
-
 -- the last instruction taken back: the machine is as it was before it
 pub returned : (s : Settings) (i : Insn) (m : Machine) → length (m .image) ≡ 768 → length (m .dst) ≡ 16384 → SixteenBits (m .dst)
-    → Walk.broughtBack (i .op) (Walk.entryOf s i m) (stepped s i m) ≡ m
+    → Walk.broughtBack (i .op) (Walk.entryOf s i m) (stepped s i m .dst) ≡ m
 unfolding Walk.broughtBack Walk.entryOf stepped dstAfter
 returned s i m long wide fits =
     let a = address (i .imm) (s .offset) (m .cursor) in
@@ -291,7 +287,7 @@ module _ (s : Settings) (list : List ℕ) (m : Machine) (long : length (m .image
   -- one call
   one-call : (k : ℕ) (x : Walk.Standing) (e : Event) → Held s list m k x → Walk.Called (e .call) s list x (e .answer) (e .after)
       → Somewhere (k + stepsOf Walk.forward (e .call) (e .answer)) (stepsOf Walk.back (e .call) (e .answer)) (e .after)
-  unfolding Walk.callAnswer Walk.moved
+  unfolding Walk.moved
   one-call k x e h d = go (e .call) (e .answer) (e .after) (e .cells) d (ℕ-discrete (e .answer) 0)
     where
       one : (answer : ℕ) → answer ≡ 0 → flagOf (eqb answer 0) ≡ 1
@@ -332,7 +328,7 @@ module _ (s : Settings) (list : List ℕ) (m : Machine) (long : length (m .image
       record { at = b .at; counted = omega (arith, a .counted, b .counted); held = b .held }
 
 -- a check that finds nothing is followed by the next
-pub first-none : (n rest : ℕ) → n ≡ 0 → pick (eqb n 0) rest n ≡ rest
+pub first-none : (n rest : ℕ) → n ≡ 0 → Walk.firstOf n rest ≡ rest
 first-none n rest h = pick-true (eqb n 0) rest n (eq-eqb n 0 h)
 
 twelve-or : (t : Bool) (n : ℕ) → (t ≡ true → n ≡ 0) → (pass t 12 n ≡ 0) ⊎ (pass t 12 n ≡ 12)
@@ -414,11 +410,11 @@ module _ (s : Settings) (image dst list room : List ℕ) (calls : List Event) (w
       (cursor-under s list k (begin s image dst) (settings-in-range s (p .list-given .settings-good) .cursor)))
 
   answers : (c : Walk.Call) → (Walk.callAnswer c s list last ≡ 0) ⊎ (Walk.callAnswer c s list last ≡ 12)
-  unfolding Walk.callAnswer Walk.forwardAnswer Walk.backAnswer Walk.nextAnswer Walk.lastAnswer
+  unfolding Walk.callAnswer Walk.nextAnswer Walk.lastAnswer
   answers Walk.forward =
       rw (first-none (Walk.lentAnswer s list (last .machine)) _ none-lent)
       (twelve-or (Walk.mayForward (last .done) (countOf list) (length (last .store))) _
-      (λ t. checked .each (last .done) (ltb-true (last .done) (countOf list) (and-left (ltb (last .done) (countOf list)) (leb (802 * last .done + 802) (length (last .store))) t))))
+      (λ t. checked .each (last .done) (under (last .done) (countOf list) (leb (802 * last .done + 802) (length (last .store))) t)))
   answers Walk.back =
       rw (first-none (Walk.lentAnswer s list (last .machine)) _ none-lent)
       (twelve-or (Walk.mayBack (last .done) (countOf list) (length (last .store))) 0 (λ t. refl))

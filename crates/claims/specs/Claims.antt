@@ -22,7 +22,7 @@ use Rattle.runner.specs.declared.Outcome.{Outcome}
 use Rattle.runner.specs.Image.{laneIn, imageGood}
 use Rattle.runner.specs.Checks.{insnAt, countOf, runAnswer, listAnswer}
 use Rattle.runner.specs.Run.{Machine, steps, begin, finish, tiesOf, noTies, Ran}
-use Rattle.runner.specs.Walk.{Standing, standing, begun, entryWords, entryIn, entryOf, Call, forward, back, moved, Called}
+use Rattle.runner.specs.Walk.{Standing, standing, begun, entryWords, entryIn, entryOf, Call, forward, back, Called}
 use Rattle.listing.specs.declared.Reading.{Reading}
 use Rattle.listing.specs.declared.Writing.{Writing}
 use Rattle.listing.specs.declared.Reporting.{Reporting}

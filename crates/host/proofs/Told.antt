@@ -11,13 +11,17 @@ use Rattle.lane.specs.Refusals.{laneStep}
 use Rattle.lane.proofs.Stores.{build-own}
 use Rattle.runner.specs.declared.Outcome.{Outcome}
 use Rattle.runner.specs.Run.{outcomeOf, runImage, runDst, Ran}
+use Rattle.runner.specs.declared.walk.Walk.{Walk}
+use Rattle.runner.specs.declared.walk.Begun.{Begun}
+use Rattle.runner.specs.declared.walk.Walked.{Walked}
+use Rattle.runner.specs.Walk.{begun, standing, Call, Called}
 use Rattle.runner.proofs.Steps.{eight-ties}
 use Rattle.listing.specs.declared.Reading.{Reading}
 use Rattle.listing.specs.declared.Writing.{Writing}
 use Rattle.listing.specs.declared.Reporting.{Reporting}
 use Rattle.listing.specs.Listing.{readText, writeList, inFront}
 use Rattle.listing.specs.Report.{Printed, reported, reporting, Reports}
-use Rattle.host.specs.Words.{outcomeWords, cellsWords, settingsWords, readingWords, writingWords}
+use Rattle.host.specs.Words.{outcomeWords, begunWords, walkOf, walkBegun, cellsWords, settingsWords, readingWords, writingWords}
 
 -- an outcome's words one by one, as they are laid out
 abbrev pub oneByOne : Outcome → List ℕ
@@ -46,6 +50,26 @@ told-run s t image dst list left stored o e h =
     let eight = ap (λ (x : Outcome). length (x .ties)) (h .outcome-is) ∙ eight-ties s image dst list in
     rw (← e)
     (ap (λ (x : Outcome). x .answer) (h .outcome-is), (laid-out o eight ∙ ap outcomeWords (h .outcome-is), (h .image-is, h .dst-is)))
+
+-- the start of a walk, as it is told: `walk` are the two words afterwards
+pub told-begin :
+    (s t : Settings) (image dst list before walk : List ℕ) (b : Begun)
+    → s ≡ t
+    → b ≡ begun s image dst list
+    → walk ≡ walkBegun b before
+    → (b .answer ≡ begun t image dst list .answer)
+    × ((begunWords b ≡ begunWords (begun t image dst list)) × (walk ≡ walkBegun (begun t image dst list) before))
+told-begin s t image dst list before walk b e h w =
+    rw (← e) (ap (λ (x : Begun). x .answer) h, (ap begunWords h, w ∙ ap (λ (x : Begun). walkBegun x before) h))
+
+pub told-step :
+    (c : Call) (s t : Settings) (list : List ℕ) (w v : Walk) (image dst store x y z : List ℕ) (r : Walked)
+    → s ≡ t
+    → w ≡ v
+    → Called c s list (standing w image dst store) (r .answer) (standing (r .walk) x y z)
+    → Called c t list (standing v image dst store) (r .answer) (standing (walkOf (r .walk .at ∷ (r .walk .cursor ∷ []))) x y z)
+unfolding walkOf
+told-step c s t list w v image dst store x y z r e f h = rw (← e, ← f) h
 
 pub told-lane :
     (s t : Settings) (L : ℕ) (i j : Insn) (own head : List ℕ) (even odd : ℕ) (o : Stepped)

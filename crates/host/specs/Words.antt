@@ -2,10 +2,14 @@
 use Prim.Native.Nat.{ℕ}
 use mathlib.Core.List.{List, [], _∷_}
 use lib.ListN.{getD}
+use lib.Dec.{eqb}
 use Rattle.lane.specs.declared.Settings.{Settings}
 use Rattle.lane.specs.declared.Insn.{Insn}
 use Rattle.lane.specs.declared.Cells.{Cells}
+use Rattle.lane.specs.Words.{pick}
 use Rattle.runner.specs.declared.Outcome.{Outcome}
+use Rattle.runner.specs.declared.walk.Walk.{Walk}
+use Rattle.runner.specs.declared.walk.Begun.{Begun}
 use Rattle.listing.specs.declared.Reading.{Reading}
 use Rattle.listing.specs.declared.Writing.{Writing}
 
@@ -25,6 +29,17 @@ insnOf ws =
 unfoldable pub outcomeWords : Outcome → List ℕ
 outcomeWords o = o .answer ∷ (o .steps ∷ (o .place ∷ (o .cursor ∷ o .ties)))
 
+-- A walk is two words: at, cursor.
+unfoldable pub walkOf : List ℕ → Walk
+walkOf ws = record { at = getD ws 0 0; cursor = getD ws 1 0 }
+
+-- What the start of a walk returns is four: answer, steps 0, place, cursor; its walk is put into the two that are lent, and a refusal leaves these.
+unfoldable pub begunWords : Begun → List ℕ
+begunWords b = b .answer ∷ (0 ∷ (b .place ∷ (b .walk .cursor ∷ [])))
+
+unfoldable pub walkBegun : Begun → List ℕ → List ℕ
+walkBegun b before = pick (eqb (b .answer) 0) (b .walk .at ∷ (b .walk .cursor ∷ [])) before
+
 -- A lane's two cells: even, odd.
 unfoldable pub cellsWords : Cells → List ℕ
 cellsWords c = c .even ∷ (c .odd ∷ [])
@@ -42,4 +57,4 @@ writingWords r = r .answer ∷ (r .steps ∷ (r .place ∷ (r .cursor ∷ (r .le
 
 -- What the library replays: 1000 is document 01 by itself, and 1000 plus n is with the requests of document 02 up to M-n.
 abbrev pub version : ℕ
-version = 1102
+version = 1103

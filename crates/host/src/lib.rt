@@ -11,18 +11,23 @@ use listing::writer::write;
 use runner::run::run;
 use runner::view::register_count;
 use runner::view::register_start;
+use runner::walk::Walk;
+use runner::walk::back;
+use runner::walk::begin;
+use runner::walk::forward;
 ghost use mathlib.Core.Path.{_≡_};
 ghost use lib.ListN.{length, getD};
 ghost use Rattle.lane.specs.Refusals.{laneStep};
 ghost use Rattle.runner.specs.Run.{outcomeOf, runImage, runDst};
+ghost use Rattle.runner.specs.Walk as Walks;
 ghost use Rattle.runner.specs.Image.{registerStart, registerCount};
 ghost use Rattle.listing.specs.Listing.{settingsOf, readText, writeList, inFront};
 ghost use Rattle.listing.specs.Program.{output};
 ghost use Rattle.listing.specs.Report.{reported, reporting};
-ghost use Rattle.host.specs.Words.{settingsWords, insnOf, outcomeWords, cellsWords, readingWords, writingWords, version};
+ghost use Rattle.host.specs.Words.{settingsWords, insnOf, outcomeWords, begunWords, walkOf, walkBegun, cellsWords, readingWords, writingWords, version};
 
 // What the library replays, as specs/ counts it.
-const VERSION: u32 = 1102;
+const VERSION: u32 = 1103;
 
 // An instruction, from six words in the list's order.
 fn insn_of(words: &[u32; 6]) -> Insn
@@ -70,6 +75,91 @@ pub extern "C" fn replay_run(
         ties[7],
     ];
     o.answer
+}
+
+// A walk, from two words.
+fn walk_of(words: &[u32; 2]) -> Walk
+    ensures { λ r. ⌜ r ≡ walkOf (now (words .entry)) ⌝ }
+{
+    Walk {
+        at: words[0],
+        cursor: words[1],
+    }
+}
+
+// The start of a walk over a list: the checks of a run, and no step done. A refusal leaves `walk` as it was.
+#[no_mangle]
+pub extern "C" fn replay_begin(
+    settings: &[u32; 8],
+    image: &[u32],
+    dst: &[u16],
+    list: &[u32],
+    outcome: &mut [u32; 4],
+    walk: &mut [u32; 2],
+) -> u32
+    ensures { λ r. ⌜ r ≡ Walks.begun (settingsOf (now (settings .entry))) (now (image .entry)) (now (dst .entry)) (now (list .entry)) .answer ⌝ }
+    ensures { λ _. ⌜ now (outcome .exit) ≡ begunWords (Walks.begun (settingsOf (now (settings .entry))) (now (image .entry)) (now (dst .entry)) (now (list .entry))) ⌝ }
+    ensures { λ _. ⌜ now (walk .exit) ≡ walkBegun (Walks.begun (settingsOf (now (settings .entry))) (now (image .entry)) (now (dst .entry)) (now (list .entry))) (now (walk .entry)) ⌝ }
+{
+    let b = begin(settings_of(settings), image, dst, list);
+    let answer = b.answer;
+    let w = b.walk;
+    *outcome = [answer, 0, b.place, w.cursor];
+    if answer == 0 {
+        *walk = [w.at, w.cursor];
+        return answer;
+    }
+    answer
+}
+
+// A step forward, its entry kept in `store`: a refusal leaves all that is lent as it was.
+#[no_mangle]
+pub extern "C" fn replay_forward(
+    settings: &[u32; 8],
+    image: &mut [u32],
+    dst: &mut [u16],
+    list: &[u32],
+    store: &mut [u32],
+    walk: &mut [u32; 2],
+) -> u32
+    ensures { λ r. ⌜ Walks.Called Walks.forward (settingsOf (now (settings .entry))) (now (list .entry)) (Walks.standing (walkOf (now (walk .entry))) (now (image .entry)) (now (dst .entry)) (now (store .entry))) r (Walks.standing (walkOf (now (walk .exit))) (now (image .exit)) (now (dst .exit)) (now (store .exit))) ⌝ }
+{
+    let stepped = forward(
+        settings_of(settings),
+        walk_of(walk),
+        image,
+        dst,
+        list,
+        store,
+    );
+    let after = stepped.walk;
+    *walk = [after.at, after.cursor];
+    stepped.answer
+}
+
+// A step back, by its entry in `store`: a refusal leaves all that is lent as it was.
+#[no_mangle]
+pub extern "C" fn replay_back(
+    settings: &[u32; 8],
+    image: &mut [u32],
+    dst: &mut [u16],
+    list: &[u32],
+    store: &mut [u32],
+    walk: &mut [u32; 2],
+) -> u32
+    ensures { λ r. ⌜ Walks.Called Walks.back (settingsOf (now (settings .entry))) (now (list .entry)) (Walks.standing (walkOf (now (walk .entry))) (now (image .entry)) (now (dst .entry)) (now (store .entry))) r (Walks.standing (walkOf (now (walk .exit))) (now (image .exit)) (now (dst .exit)) (now (store .exit))) ⌝ }
+{
+    let stepped = back(
+        settings_of(settings),
+        walk_of(walk),
+        image,
+        dst,
+        list,
+        store,
+    );
+    let after = stepped.walk;
+    *walk = [after.at, after.cursor];
+    stepped.answer
 }
 
 // One instruction in one lane, by the lane rules: a refusal leaves the lane's words and its two cells, even and odd, as they were.

@@ -1,21 +1,20 @@
 -- A walk's steps: one instruction as a list of its own, an entry put together and put into its store, and what an entry brings back. Assumes nothing.
 use mathlib.Core.Path.{_≡_, refl, sym, ap, _∙_}
-use Prim.Native.Nat.{ℕ, _+_, _-_, _*_, _/_, _%_, _^_, _<_, _≤_}
+use Prim.Native.Nat.{ℕ, _+_, _-_, _*_, _/_, _<_, _≤_}
 use native.Mathlib.Nat.{add-zero, zero-add}
 use native.Mathlib.Numerals.{add-one}
 use native.Mathlib.Omega.{arith}
-use mathlib.Core.Bool.{Bool, true, false, _&&_}
-use mathlib.Core.List.{List, [], _∷_, _++_, append-nil, append-assoc}
-use lib.ListN.{length, getD, set, take, drop, replicate, length-take, length-drop, getD-replicate}
+use mathlib.Core.Bool.{Bool, true, _&&_}
+use mathlib.Core.List.{List, [], _∷_, _++_, append-assoc}
+use lib.ListN.{length, getD, set, take, drop, replicate, length-drop, getD-replicate}
 use lib.Seq.{paste, paste-suc, take-paste, length-paste, take-all, take-length, length-take-le, getD-take, getD-drop, drop-drop}
 use lib.Dec.{eqb, ltb, leb}
-use borrow.Author.Tests.{eq-eqb, ne-eqb, lt-ltb, le-leb, ltb-true, leb-true}
+use borrow.Author.Tests.{eq-eqb, ne-eqb, lt-ltb, ltb-true, leb-true}
 use Rattle.lane.specs.declared.Settings.{Settings}
 use Rattle.lane.specs.declared.Insn.{Insn}
 use Rattle.lane.specs.Words.{pick, build}
 use Rattle.lane.specs.Load.{address}
 use Rattle.lane.specs.Store.{withCell, storedCell}
-use Rattle.lane.specs.Refusals.{pass, instructionAnswer}
 use Rattle.lane.proofs.Cases.{pick-true, pick-false}
 use Rattle.lane.proofs.Stores.{length-build, build-same}
 use Rattle.lane.proofs.Tables.{and-left, and-right}
@@ -26,7 +25,7 @@ use Rattle.runner.specs.PrivateLoad.{oddAt, oddIn, cellOf}
 use Rattle.runner.specs.PrivateStore.{storedBy}
 use Rattle.runner.specs.PrivateSteps.{starting, Through}
 use Rattle.runner.specs.Walk as Walk
-use Rattle.runner.proofs.Accepted.{Passed, passed, chosen, pass-on, first, none-first, given-short}
+use Rattle.runner.proofs.Accepted.{Passed, passed, chosen, pass-on, first, none-first}
 use Rattle.runner.proofs.Dsts.{cells-same}
 use Rattle.runner.proofs.Masks.{marks, masks-of}
 use Rattle.runner.proofs.Filled.{operand}
@@ -51,26 +50,13 @@ passed-lent s list m p l =
     ∙ pass-on (ltb (m .cursor) 1024) 3 _ (lt-ltb (m .cursor) 1024 l)
     ∙ none-first s (m .image) (m .dst) list p
 
-pub lent-short : (s : Settings) (list : List ℕ) (m : Machine) → Walk.lentAnswer s list m ≡ 0 → length list ≤ 6144
-lent-short s list m h = given-short s list (lent-passed s list m h .0 .list-given)
+-- the first of two tests that hold
+pub under : (k n : ℕ) (t : Bool) → (ltb k n && t) ≡ true → k < n
+under k n t h = ltb-true k n (and-left (ltb k n) t h)
 
-both-true : (s t : Bool) → s ≡ true → t ≡ true → (s && t) ≡ true
-both-true s t p q = ap (λ (x : Bool). x && t) p ∙ q
-
-pub next-good : (done : ℕ) (list : List ℕ) (size r : ℕ) → done < countOf list → 802 * done + 802 ≤ size → r ≡ instructionAnswer true (insnAt list done)
-    → r ≡ Walk.nextAnswer done list size
-unfolding Walk.nextAnswer
-next-good done list size r h k e =
-    e ∙ sym (pass-on (Walk.mayForward done (countOf list) size) 12 _ (both-true _ _ (lt-ltb done (countOf list) h) (le-leb (802 * done + 802) size k)))
-
-pub next-none : (done : ℕ) (list : List ℕ) (size : ℕ) → (done < countOf list → 802 * done + 802 ≤ size → ⊥) → 12 ≡ Walk.nextAnswer done list size
-unfolding Walk.nextAnswer pass pick
-next-none done list size h = go (ltb done (countOf list)) (leb (802 * done + 802) size) refl refl
-  where
-    go : (t u : Bool) → ltb done (countOf list) ≡ t → leb (802 * done + 802) size ≡ u → 12 ≡ pick (t && u) (instructionAnswer true (insnAt list done)) 12
-    go true true p q = absurd (h (ltb-true done (countOf list) p) (leb-true (802 * done + 802) size q))
-    go true false p q = refl
-    go false u p q = refl
+-- the first of two checks that were made
+pub answered : (one next r lent rest : ℕ) → r ≡ Walk.firstOf one next → one ≡ lent → next ≡ rest → r ≡ Walk.firstOf lent rest
+answered one next r lent rest e p q = e ∙ cc (p, q)
 
 -- what a step that is not refused was checked for
 pub record Forward (s : Settings) (list : List ℕ) (x : Walk.Standing) : Type 0 where
@@ -85,8 +71,8 @@ pub record Back (s : Settings) (list : List ℕ) (x : Walk.Standing) : Type 0 wh
   pub few : x .done ≤ countOf list
   pub room : 802 * x .done ≤ length (x .store)
 
-pub forward-good : (s : Settings) (list : List ℕ) (x : Walk.Standing) → Walk.forwardAnswer s list x ≡ 0 → Forward s list x
-unfolding Walk.forwardAnswer Walk.nextAnswer
+pub forward-good : (s : Settings) (list : List ℕ) (x : Walk.Standing) → Walk.callAnswer Walk.forward s list x ≡ 0 → Forward s list x
+unfolding Walk.callAnswer Walk.nextAnswer
 forward-good s list x h =
     let a = chosen (Walk.lentAnswer s list (x .machine)) _ h in
     let p = lent-passed s list (x .machine) (a .0) in
@@ -94,12 +80,12 @@ forward-good s list x h =
     record {
       passed = p .0;
       cursor = p .1;
-      next = ltb-true (x .done) (countOf list) (and-left (ltb (x .done) (countOf list)) (leb (802 * x .done + 802) (length (x .store))) (b .0));
+      next = under (x .done) (countOf list) (leb (802 * x .done + 802) (length (x .store))) (b .0);
       room = leb-true (802 * x .done + 802) (length (x .store)) (and-right (ltb (x .done) (countOf list)) (leb (802 * x .done + 802) (length (x .store))) (b .0));
     }
 
-pub back-good : (s : Settings) (list : List ℕ) (x : Walk.Standing) → Walk.backAnswer s list x ≡ 0 → Back s list x
-unfolding Walk.backAnswer Walk.lastAnswer
+pub back-good : (s : Settings) (list : List ℕ) (x : Walk.Standing) → Walk.callAnswer Walk.back s list x ≡ 0 → Back s list x
+unfolding Walk.callAnswer Walk.lastAnswer
 back-good s list x h =
     let a = chosen (Walk.lentAnswer s list (x .machine)) _ h in
     let b = passed (Walk.mayBack (x .done) (countOf list) (length (x .store))) 11 _ (a .1) .0 in
@@ -270,7 +256,7 @@ entry-kept e e₁ e₂ e₃ image dst cells i a cursor long wide ec p q r =
     row-long = ap length ec ∙ length-build 32 _
 
 -- a machine, by its parts
-machine-is : (m : Machine) (cursor : ℕ) (image dst : List ℕ) → cursor ≡ m .cursor → image ≡ m .image → dst ≡ m .dst → starting cursor image dst ≡ m
+pub machine-is : (m : Machine) (cursor : ℕ) (image dst : List ℕ) → cursor ≡ m .cursor → image ≡ m .image → dst ≡ m .dst → starting cursor image dst ≡ m
 machine-is m cursor image dst p q r =
     ap (λ (n : ℕ). starting n image dst) p ∙ ap (λ (x : List ℕ). starting (m .cursor) x dst) q ∙ ap (λ (x : List ℕ). starting (m .cursor) (m .image) x) r
 
@@ -307,20 +293,22 @@ step-made s list store image dst entry x y ties k cursor a last i h ei ea ee t =
     kept : entry ≡ Walk.entryOf s (insnAt list k) (starting cursor image dst)
     kept = ee ∙ cc (ea, ei)
 
-pub back-made : (list store image dst x y : List ℕ) (n cursor op last : ℕ) → op ≡ insnAt list (n - 1) .op
-    → x ≡ Walk.imageOf (take (802 * (n - 1) + 802 - 802 * (n - 1)) (drop (802 * (n - 1)) store))
-    → y ≡ Walk.dstBack op (take (802 * (n - 1) + 802 - 802 * (n - 1)) (drop (802 * (n - 1)) store)) dst
-    → last ≡ Walk.cursorOf (take (802 * (n - 1) + 802 - 802 * (n - 1)) (drop (802 * (n - 1)) store))
+-- what an entry brings back, part by part
+pub all-back : (op : ℕ) (entry dst x y : List ℕ) (last : ℕ) → x ≡ Walk.imageOf entry → y ≡ Walk.dstBack op entry dst → last ≡ Walk.cursorOf entry
+    → starting last x y ≡ Walk.broughtBack op entry dst
+unfolding Walk.broughtBack
+all-back op entry dst x y last p q r = machine-is (Walk.broughtBack op entry dst) last x y r p q
+
+-- an entry of a store, as a part
+pub entry-part : (op k : ℕ) (store dst : List ℕ) → Walk.broughtBack op (take (802 * k + 802 - 802 * k) (drop (802 * k) store)) dst ≡ Walk.broughtBack op (Walk.entryIn store k) dst
+entry-part op k store dst = ap (λ (n : ℕ). Walk.broughtBack op (take n (drop (802 * k) store)) dst) (cut-off (802 * k) 802)
+
+pub back-made : (list store image dst x y : List ℕ) (n cursor last : ℕ)
+    → starting last x y ≡ Walk.broughtBack (insnAt list (n - 1) .op) (Walk.entryIn store (n - 1)) dst
     → Walk.standing (record { at = n - 1; cursor = last }) x y store
     ≡ Walk.backed list (Walk.standing (record { at = n; cursor = cursor }) image dst store)
-unfolding Walk.backed Walk.broughtBack
-back-made list store image dst x y n cursor op last eo ex ey el =
-    let q = cut-off (802 * (n - 1)) 802 in
-    let e = Walk.entryIn store (n - 1) in
-    standing-is _ _ (n - 1) store store
-    (machine-is (Walk.broughtBack (insnAt list (n - 1) .op) e (starting cursor image dst)) last x y (rw q at el) (rw q at ex)
-    ((rw q at ey) ∙ ap (λ (o : ℕ). Walk.dstBack o e dst) eo))
-    refl
+unfolding Walk.backed
+back-made list store image dst x y n cursor last e = standing-is _ _ (n - 1) store store e refl
 
 -- a whole image brought back
 pub image-back : (image entry x : List ℕ) → length image ≡ 768 → length entry ≡ 802

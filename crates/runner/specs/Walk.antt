@@ -102,13 +102,13 @@ forwarded s list x =
 unfoldable pub dstBack : ℕ → List ℕ → List ℕ → List ℕ
 dstBack op entry dst = pick (eqb op 16) (withKept entry dst) dst
 
-unfoldable pub broughtBack : ℕ → List ℕ → Machine → Machine
-broughtBack op entry m = record { image = imageOf entry; dst = dstBack op entry (m .dst); cursor = cursorOf entry }
+unfoldable pub broughtBack : ℕ → List ℕ → List ℕ → Machine
+broughtBack op entry dst = record { image = imageOf entry; dst = dstBack op entry dst; cursor = cursorOf entry }
 
 unfoldable pub backed : List ℕ → Standing → Standing
 backed list x =
     record {
-      machine = broughtBack (insnAt list (x .done - 1) .op) (entryIn (x .store) (x .done - 1)) (x .machine);
+      machine = broughtBack (insnAt list (x .done - 1) .op) (entryIn (x .store) (x .done - 1)) (x .machine .dst);
       done = x .done - 1;
       store = x .store;
     }
@@ -137,24 +137,20 @@ nextAnswer done list size = pass (mayForward done (countOf list) size) 12 (instr
 unfoldable pub lastAnswer : ℕ → List ℕ → ℕ → ℕ
 lastAnswer done list size = pass (mayBack done (countOf list) size) 12 0
 
--- 1 to 6, and then those.
-unfoldable pub forwardAnswer : Settings → List ℕ → Standing → ℕ
-forwardAnswer s list x =
-    pick (eqb (lentAnswer s list (x .machine)) 0) (nextAnswer (x .done) list (length (x .store))) (lentAnswer s list (x .machine))
-
-unfoldable pub backAnswer : Settings → List ℕ → Standing → ℕ
-backAnswer s list x =
-    pick (eqb (lentAnswer s list (x .machine)) 0) (lastAnswer (x .done) list (length (x .store))) (lentAnswer s list (x .machine))
-
 -- ---- a call
 
 pub data Call : Type 0 where
   forward : Call
   back : Call
 
+-- The first number of two checks, one after the other.
+abbrev pub firstOf : ℕ → ℕ → ℕ
+firstOf one next = pick (eqb one 0) next one
+
+-- What a call answers: 1 to 6, and then those.
 unfoldable pub callAnswer : Call → Settings → List ℕ → Standing → ℕ
-callAnswer forward s list x = forwardAnswer s list x
-callAnswer back s list x = backAnswer s list x
+callAnswer forward s list x = firstOf (lentAnswer s list (x .machine)) (nextAnswer (x .done) list (length (x .store)))
+callAnswer back s list x = firstOf (lentAnswer s list (x .machine)) (lastAnswer (x .done) list (length (x .store)))
 
 unfoldable pub moved : Call → Settings → List ℕ → Standing → Standing
 moved forward s list x = forwarded s list x

@@ -12,9 +12,10 @@ use lane::Settings;
 use lane::load::address;
 use lane::refuse::instruction_answer;
 ghost use mathlib.Core.Path.{_≡_};
-ghost use Prim.Native.Nat.{_+_, _*_, _^_, _<_, _≤_};
+ghost use Prim.Native.Nat.{_+_, _*_, _<_, _≤_};
 ghost use lib.ListN.{length};
 ghost use lib.Seq.{paste};
+ghost use Rattle.runner.specs.Checks.{insnAt};
 ghost use Rattle.runner.specs.Walk as Walks;
 
 // Where a walk stands: how many steps are done, and the cursor.
@@ -71,57 +72,32 @@ fn lent_answer(s: Settings, cursor: u32, image: &[u32], dst: &[u16], list: &[u32
 }
 
 // 12 where there is no instruction to go forward to, or no room for its entry; then 7, 8 and 9 of that instruction.
-fn next_answer(at: usize, list: &[u32], size: usize) -> u32
-    requires { ⌜ (at < 2 ^ 32) × (length (now list) ≤ 6144) ⌝ }
+fn next_answer(at: u32, list: &[u32], size: usize) -> u32
     ensures { λ r. ⌜ r ≡ Walks.nextAnswer at (now (list .entry)) size ⌝ }
 {
-    if at < list.len() / 6 {
-        if ENTRY * at + ENTRY <= size {
-            return instruction_answer(true, insn_at(list, at));
-        }
-        return 12;
+    let k = at as usize;
+    if (k < list.len() / 6) & (ENTRY * k + ENTRY <= size) {
+        return instruction_answer(true, insn_at(list, k));
     }
     12
 }
 
 // 12 where there is no step to take back, or none can have been taken.
-fn last_answer(at: usize, list: &[u32], size: usize) -> u32
-    requires { ⌜ (at < 2 ^ 32) × (length (now list) ≤ 6144) ⌝ }
+fn last_answer(at: u32, list: &[u32], size: usize) -> u32
     ensures { λ r. ⌜ r ≡ Walks.lastAnswer at (now (list .entry)) size ⌝ }
 {
-    if (1 <= at) & (at <= list.len() / 6) & (ENTRY * at <= size) {
+    let k = at as usize;
+    if (1 <= k) & (k <= list.len() / 6) & (ENTRY * k <= size) {
         return 0;
     }
     12
 }
 
-// All that a step forward is checked for.
-fn forward_answer(
-    s: Settings,
-    w: Walk,
-    image: &[u32],
-    dst: &[u16],
-    list: &[u32],
-    store: &[u32],
-) -> u32
-    ensures { λ r. ⌜ r ≡ Walks.forwardAnswer s (now (list .entry)) (Walks.standing w (now (image .entry)) (now (dst .entry)) (now (store .entry))) ⌝ }
+// The first number of two checks.
+fn first_of(one: u32, next: u32) -> u32
+    ensures { λ r. ⌜ r ≡ Walks.firstOf one next ⌝ }
 {
-    let lent = lent_answer(s, w.cursor, image, dst, list);
-    if lent == 0 {
-        return next_answer(w.at as usize, list, store.len());
-    }
-    lent
-}
-
-// All that a step back is checked for.
-fn back_answer(s: Settings, w: Walk, image: &[u32], dst: &[u16], list: &[u32], store: &[u32]) -> u32
-    ensures { λ r. ⌜ r ≡ Walks.backAnswer s (now (list .entry)) (Walks.standing w (now (image .entry)) (now (dst .entry)) (now (store .entry))) ⌝ }
-{
-    let lent = lent_answer(s, w.cursor, image, dst, list);
-    if lent == 0 {
-        return last_answer(w.at as usize, list, store.len());
-    }
-    lent
+    if one == 0 { next } else { one }
 }
 
 // Words put into a part, from its word `at` on.
@@ -194,7 +170,8 @@ pub fn forward(
 ) -> Walked
     ensures { λ r. ⌜ Walks.Called Walks.forward s (now (list .entry)) (Walks.standing w (now (image .entry)) (now (dst .entry)) (now (store .entry))) (r .answer) (Walks.standing (r .walk) (now (image .exit)) (now (dst .exit)) (now (store .exit))) ⌝ }
 {
-    let answer = forward_answer(s, w, image, dst, list, store);
+    let lent = lent_answer(s, w.cursor, image, dst, list);
+    let answer = first_of(lent, next_answer(w.at, list, store.len()));
     if answer == 0 {
         let cursor = step_kept(s, w.at as usize, w.cursor, image, dst, list, store);
         return Walked {
@@ -233,11 +210,22 @@ fn bring_cells(op: u32, dst: &mut [u16], image: &[u32], entry: &[u32])
 // All that an entry of 802 words brings back, after an instruction with that op; the cursor.
 fn bring_back(op: u32, image: &mut [u32], dst: &mut [u16], entry: &[u32]) -> u32
     requires { ⌜ (length (now image) ≡ 768) × ((length (now dst) ≡ 16384) × (length (now entry) ≡ 802)) ⌝ }
-    ensures { λ r. ⌜ (now (image .exit) ≡ Walks.imageOf (now (entry .entry))) × ((now (dst .exit) ≡ Walks.dstBack op (now (entry .entry)) (now (dst .entry))) × (r ≡ Walks.cursorOf (now (entry .entry)))) ⌝ }
+    ensures { λ r. ⌜ record { image = now (image .exit); dst = now (dst .exit); cursor = r } ≡ Walks.broughtBack op (now (entry .entry)) (now (dst .entry)) ⌝ }
 {
     put_words(image, 0, &entry[0..768]);
     bring_cells(op, dst, image, entry);
     entry[768]
+}
+
+// Instruction `k` of a list taken back by its entry; the cursor before it.
+fn step_back(k: usize, image: &mut [u32], dst: &mut [u16], list: &[u32], store: &[u32]) -> u32
+    requires { ⌜ (length (now image) ≡ 768) × ((length (now dst) ≡ 16384) × ((6 * k + 6 ≤ length (now list)) × ((k < 1024) × (802 * k + 802 ≤ length (now store))))) ⌝ }
+    ensures { λ r. ⌜ record { image = now (image .exit); dst = now (dst .exit); cursor = r } ≡ Walks.broughtBack (insnAt (now (list .entry)) k .op) (Walks.entryIn (now (store .entry)) k) (now (dst .entry)) ⌝ }
+{
+    let first = 6 * k;
+    let start = ENTRY * k;
+    let end = start + ENTRY;
+    bring_back(list[first], image, dst, &store[start..end])
 }
 
 // A step back: a refusal leaves all as it was.
@@ -251,20 +239,18 @@ pub fn back(
 ) -> Walked
     ensures { λ r. ⌜ Walks.Called Walks.back s (now (list .entry)) (Walks.standing w (now (image .entry)) (now (dst .entry)) (now (store .entry))) (r .answer) (Walks.standing (r .walk) (now (image .exit)) (now (dst .exit)) (now (store .entry))) ⌝ }
 {
-    let answer = back_answer(s, w, image, dst, list, store);
-    if answer == 0 {
-        let k = w.at as usize - 1;
-        let op = list[6 * k];
-        let from = ENTRY * k;
-        let to = from + ENTRY;
-        let cursor = bring_back(op, image, dst, &store[from..to]);
+    let lent = lent_answer(s, w.cursor, image, dst, list);
+    let refusal = first_of(lent, last_answer(w.at, list, store.len()));
+    if refusal == 0 {
+        let at = w.at - 1;
+        let cursor = step_back(at as usize, image, dst, list, store);
         return Walked {
             answer: 0,
-            walk: Walk {
-                at: w.at - 1,
-                cursor,
-            },
+            walk: Walk { at, cursor },
         };
     }
-    Walked { answer, walk: w }
+    Walked {
+        answer: refusal,
+        walk: w,
+    }
 }

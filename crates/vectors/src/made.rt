@@ -52,13 +52,13 @@ fn fill_image(x: &mut u32, image: &mut [u32; IMAGE]) {
 }
 
 // A change: so many words from a place on become one.
-fn put_change(image: &mut [u32; IMAGE]) {
-    let first = place(IMAGE);
-    let end = at_most(first + place(IMAGE), IMAGE);
+pub(crate) fn put_change(words: &mut [u32]) {
+    let first = place(words.len());
+    let end = first + at_most(place(words.len()), words.len() - first);
     let word = number();
     let mut at = first;
     while at < end {
-        image[at] = word;
+        words[at] = word;
         at += 1;
     }
 }

@@ -15,12 +15,15 @@ mod lane_case;
 mod writing_case;
 // A listing read.
 mod reading_case;
+// A list stepped forward and back.
+mod walk_case;
 
 use form::number;
 use lane_case::lane_case;
 use reading_case::TEXT;
 use reading_case::reading_case;
 use run_case::run_case;
+use walk_case::walk_case;
 use writing_case::writing_case;
 ghost use Prim.Native.Nat.{_≤_};
 
@@ -38,6 +41,7 @@ fn one_case(kind: u32, kept: &mut [u8; TEXT], length: u32) -> u32 {
         1 => run_case(),
         2 => lane_case(),
         3 => return writing_case(kept),
+        5 => walk_case(),
         _ => reading_case(kept, length),
     }
     length

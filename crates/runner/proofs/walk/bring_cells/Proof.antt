@@ -1,15 +1,9 @@
 use Rattle.lane.proofs.Cases.{if-eq, if-ne}
-use Rattle.runner.specs.Walk.{dstBack}
-use mathlib.Core.Path.{refl}
-use borrow.Author.Needs.{needs}
 use Rattle.runner.proofs.walk.bring_cells.Statement.{statement}
+use Rattle.runner.specs.Walk.{dstBack}
+use borrow.Author.Needs.{needs}
+use mathlib.Core.Path.{refl}
 use Rattle.runner.proofs.walk.bring_cells.Tie as tie
-
-put-cells-requires : tie.Need-put-cells-requires
-put-cells-requires c κs = search needs
-
-same-length : tie.Need-same-length
-same-length c = search needs
 
 returns : tie.Need-returns
 unfolding dstBack
@@ -20,4 +14,5 @@ unfolding dstBack
 returns-2 c = if-ne _ _ _ _ _ (c .if1 .left) refl
 
 pub bring-cells-spec : {M : Type 1} → statement M
-bring-cells-spec = tie.close (tie.spec put-cells-requires same-length returns returns-2)
+bring-cells-spec =
+    tie.close (tie.spec (λ c κs. search needs) (λ c. search needs) returns returns-2)

@@ -1,17 +1,8 @@
 use Rattle.lane.specs.Words.{build}
 use Rattle.runner.proofs.Walks.{kept-store, kept-none}
-use borrow.Author.Needs.{needs}
 use Rattle.runner.proofs.walk.kept_cells.Statement.{statement}
+use borrow.Author.Needs.{needs}
 use Rattle.runner.proofs.walk.kept_cells.Tie as tie
-
-odd-row-requires : tie.Need-odd-row-requires
-odd-row-requires c κs = search needs
-
-mul-cells : tie.Need-mul-cells
-mul-cells c = search needs
-
-cells-requires : tie.Need-cells-requires
-cells-requires c κs = search needs
 
 returns : tie.Need-returns
 returns c =
@@ -23,4 +14,5 @@ unfolding build
 returns-2 c = kept-none _ _ _ _ (c .if1 .left)
 
 pub kept-cells-spec : {M : Type 1} → statement M
-kept-cells-spec = tie.close (tie.spec odd-row-requires mul-cells cells-requires returns returns-2)
+kept-cells-spec =
+    tie.close (tie.spec (λ c κs. search needs) (λ c. search needs) (λ c κs. search needs) returns returns-2)

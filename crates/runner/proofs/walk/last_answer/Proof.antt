@@ -1,13 +1,10 @@
-use Rattle.lane.specs.Refusals.{pass}
 use Rattle.lane.proofs.Cases.{if-true, if-false}
-use Rattle.runner.specs.Walk.{lastAnswer}
-use mathlib.Core.Path.{refl}
-use borrow.Author.Needs.{needs}
+use Rattle.lane.specs.Refusals.{pass}
 use Rattle.runner.proofs.walk.last_answer.Statement.{statement}
+use Rattle.runner.specs.Walk.{lastAnswer}
+use borrow.Author.Needs.{needs}
+use mathlib.Core.Path.{refl}
 use Rattle.runner.proofs.walk.last_answer.Tie as tie
-
-mul-if1 : tie.Need-mul-if1
-mul-if1 c = search needs
 
 returns : tie.Need-returns
 unfolding lastAnswer pass
@@ -18,4 +15,5 @@ unfolding lastAnswer pass
 returns-2 c = if-false _ _ _ _ (c .if1 .left) refl
 
 pub last-answer-spec : {M : Type 1} → statement M
-last-answer-spec = tie.close (tie.spec mul-if1 returns returns-2)
+last-answer-spec =
+    tie.close (tie.spec (λ c. search needs) returns returns-2)

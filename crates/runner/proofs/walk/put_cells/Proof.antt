@@ -1,29 +1,17 @@
 use Rattle.runner.proofs.StoreRows.{odds-masks}
 use Rattle.runner.proofs.Walks.{image-long, every-masks, cells-back}
-use native.Mathlib.Omega.{arith}
-use borrow.Author.Needs.{needs}
 use Rattle.runner.proofs.walk.put_cells.Statement.{statement}
+use borrow.Author.Needs.{needs}
+use native.Mathlib.Omega.{arith}
 use Rattle.runner.proofs.walk.put_cells.Tie as tie
-
-shared-slice-read-a : tie.Need-shared-slice-read-a
-shared-slice-read-a c = search needs
-
-cast-a : tie.Need-cast-a
-cast-a c = search needs
 
 odd-row-requires : tie.Need-odd-row-requires
 odd-row-requires c κs = let pre = c .before .before .before .before .pre in image-long _ (c .before .before .before .before .args .entry .now) (pre .1 .0) (pre .1 .1)
-
-copied-requires : tie.Need-copied-requires
-copied-requires c κs = search needs
 
 store-rows-requires : tie.Need-store-rows-requires
 store-rows-requires c κs =
     let pre = c .before .before .before .before .before .before .before .before .before .before .pre in
     (pre .0, (omega arith, (odds-masks _ _ _ (c .before .before .before .before .before .odd-row .ensures), every-masks)))
-
-same-length : tie.Need-same-length
-same-length c = search needs
 
 returns : tie.Need-returns
 returns c =
@@ -34,10 +22,4 @@ pub put-cells-spec : {M : Type 1} → statement M
 put-cells-spec =
     tie.close
     (tie.spec
-    shared-slice-read-a
-    cast-a
-    odd-row-requires
-    copied-requires
-    store-rows-requires
-    same-length
-    returns)
+    (λ c. search needs) (λ c. search needs) odd-row-requires (λ c κs. search needs) store-rows-requires (λ c. search needs) returns)

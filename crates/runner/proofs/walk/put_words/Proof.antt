@@ -1,11 +1,11 @@
-use borrow.Author.Needs.{needs}
 use Prim.Native.Nat.{_-_, _≤_}
 use Rattle.runner.proofs.Walks.{put-long, put-more, put-end}
+use Rattle.runner.proofs.walk.put_words.Statement.{statement}
+use borrow.Author.Needs.{needs}
 use lib.ListN.{length}
 use lib.Seq.{paste, paste-zero}
 use mathlib.Core.Path.{_≡_}
 use native.Mathlib.Omega.{arith}
-use Rattle.runner.proofs.walk.put_words.Statement.{statement}
 use Rattle.runner.proofs.walk.put_words.Tie as tie
 
 abbrev Inv-loop : tie.InvT-loop
@@ -17,26 +17,8 @@ abbrev μ-loop : tie.MeasureT-loop
 loop-holds : tie.Need-loop-holds Inv-loop μ-loop
 loop-holds c = (omega arith, paste-zero _ (c .args .at) (c .args .words .now))
 
-mul-to : tie.Need-mul-to Inv-loop μ-loop
-mul-to c = search needs
-
-shared-slice-read-to : tie.Need-shared-slice-read-to Inv-loop μ-loop
-shared-slice-read-to c = omega arith
-
-add-to : tie.Need-add-to Inv-loop μ-loop
-add-to c = omega arith
-
-mul-to-2 : tie.Need-mul-to-2 Inv-loop μ-loop
-mul-to-2 c = search needs
-
 slice-write-to : tie.Need-slice-write-to Inv-loop μ-loop
 slice-write-to c = let a = c .before .before .before .args in omega (arith, put-long (a .to .now) _ (a .at) (a .words .now) _ (c .before .before .before .pre) (c .before .before .loop .inv .0) (c .before .before .loop .inv .1))
-
-add-n : tie.Need-add-n Inv-loop μ-loop
-add-n c = omega arith
-
-loop-less : tie.Need-loop-less Inv-loop μ-loop
-loop-less c = omega arith
 
 loop-again : tie.Need-loop-again Inv-loop μ-loop
 loop-again c = (omega arith, put-more _ _ _ _ _ (c .before .before .before .pre) (c .before .loop-test .taken) (c .before .before .loop .inv .1))
@@ -51,16 +33,5 @@ pub put-words-spec : {M : Type 1} → statement M
 put-words-spec =
     tie.close
     (tie.spec
-    Inv-loop
-    μ-loop
-    loop-holds
-    mul-to
-    shared-slice-read-to
-    add-to
-    mul-to-2
-    slice-write-to
-    add-n
-    loop-less
-    loop-again
-    same-length
-    returns)
+    Inv-loop μ-loop loop-holds (λ c. search needs) (λ c. omega arith) (λ c. omega arith) (λ c. search needs) slice-write-to (λ c. omega arith)
+    (λ c. omega arith) loop-again same-length returns)
