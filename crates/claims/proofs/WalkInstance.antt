@@ -26,11 +26,11 @@ use Rattle.runner.specs.Walk as Walk
 use Rattle.runner.proofs.Lanes.{lane-of-lanes}
 use Rattle.runner.proofs.Dsts.{length-cells, cell-at, cell-of}
 use Rattle.runner.proofs.Accepted.{Each, run-accepted}
-use Rattle.runner.proofs.Walks.{called-done, called-refused}
+use Rattle.runner.proofs.Walks.{first-none, called-done, called-refused}
 use Rattle.claims.specs.Twelve.{plainly}
 use Rattle.claims.specs.Claims.{SixteenBits, Event, startOf, Walked, WalkOverStore}
 use Rattle.claims.proofs.Instance.{zeros, zeros-formed, good-settings}
-use Rattle.claims.proofs.Walks.{none-lent, first-none, entry-own, store-long, next-long, returned}
+use Rattle.claims.proofs.Walks.{none-lent, entry-own, store-long, next-long, returned}
 
 -- ---- the list, the Dst and the store
 

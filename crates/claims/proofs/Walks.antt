@@ -31,7 +31,7 @@ use Rattle.runner.specs.Walk as Walk
 use Rattle.runner.proofs.Accepted as Checks
 use Rattle.runner.proofs.Dsts.{ownCell, cellsIn, cell-at, cell-of, cells-same, own-cells, dst-kept}
 use Rattle.runner.proofs.Steps.{store-cells}
-use Rattle.runner.proofs.Walks.{Forward, forward-good, back-good, passed-lent, under, machine-is}
+use Rattle.runner.proofs.Walks.{Forward, forward-good, back-good, passed-lent, under, first-none, machine-is}
 use Rattle.claims.specs.Claims.{SixteenBits, Event, Made, lastOf, stepsOf, accepted, StandsAt, startOf, Walked}
 use Rattle.claims.proofs.Kept.{good-steps, length-steps, length-dst-steps}
 use Rattle.claims.proofs.Runs as Runs
@@ -326,10 +326,6 @@ module _ (s : Settings) (list : List ℕ) (m : Machine) (long : length (m .image
       let a = one-call k x e h (d .0) in
       let b = any-calls es (a .at) (e .after) (a .held) (d .1) in
       record { at = b .at; counted = omega (arith, a .counted, b .counted); held = b .held }
-
--- a check that finds nothing is followed by the next
-pub first-none : (n rest : ℕ) → n ≡ 0 → Walk.firstOf n rest ≡ rest
-first-none n rest h = pick-true (eqb n 0) rest n (eq-eqb n 0 h)
 
 twelve-or : (t : Bool) (n : ℕ) → (t ≡ true → n ≡ 0) → (pass t 12 n ≡ 0) ⊎ (pass t 12 n ≡ 12)
 unfolding pass pick

@@ -54,9 +54,28 @@ passed-lent s list m p l =
 pub under : (k n : ℕ) (t : Bool) → (ltb k n && t) ≡ true → k < n
 under k n t h = ltb-true k n (and-left (ltb k n) t h)
 
--- the first of two checks that were made
-pub answered : (one next r lent rest : ℕ) → r ≡ Walk.firstOf one next → one ≡ lent → next ≡ rest → r ≡ Walk.firstOf lent rest
-answered one next r lent rest e p q = e ∙ cc (p, q)
+-- a check that finds nothing is followed by the next
+pub first-none : (one rest : ℕ) → one ≡ 0 → Walk.firstOf one rest ≡ rest
+first-none one rest z = pick-true (eqb one 0) rest one (eq-eqb one 0 z)
+
+-- what a call answers: 1 to 6 where one of these is given, else what comes after them
+module _ (s : Settings) (list : List ℕ) (x : Walk.Standing) (lent : ℕ) (e : lent ≡ Walk.lentAnswer s list (x .machine)) where
+  first-some : (rest : ℕ) → (lent ≡ 0 → ⊥) → lent ≡ Walk.firstOf (Walk.lentAnswer s list (x .machine)) rest
+  first-some rest n =
+      e ∙ sym (pick-false (eqb (Walk.lentAnswer s list (x .machine)) 0) rest _ (ne-eqb (Walk.lentAnswer s list (x .machine)) 0 (λ z. n (e ∙ z))))
+
+  pub lent-given : (c : Walk.Call) → (lent ≡ 0 → ⊥) → lent ≡ Walk.callAnswer c s list x
+  unfolding Walk.callAnswer
+  lent-given Walk.forward n = first-some _ n
+  lent-given Walk.back n = first-some _ n
+
+  pub next-given : (answer : ℕ) → lent ≡ 0 → answer ≡ Walk.nextAnswer (x .done) list (length (x .store)) → answer ≡ Walk.callAnswer Walk.forward s list x
+  unfolding Walk.callAnswer
+  next-given answer z q = q ∙ sym (first-none (Walk.lentAnswer s list (x .machine)) _ (sym e ∙ z))
+
+  pub last-given : (answer : ℕ) → lent ≡ 0 → answer ≡ Walk.lastAnswer (x .done) list (length (x .store)) → answer ≡ Walk.callAnswer Walk.back s list x
+  unfolding Walk.callAnswer
+  last-given answer z q = q ∙ sym (first-none (Walk.lentAnswer s list (x .machine)) _ (sym e ∙ z))
 
 -- what a step that is not refused was checked for
 pub record Forward (s : Settings) (list : List ℕ) (x : Walk.Standing) : Type 0 where
@@ -310,11 +329,18 @@ pub back-made : (list store image dst x y : List ℕ) (n cursor last : ℕ)
 unfolding Walk.backed
 back-made list store image dst x y n cursor last e = standing-is _ _ (n - 1) store store e refl
 
--- a whole image brought back
-pub image-back : (image entry x : List ℕ) → length image ≡ 768 → length entry ≡ 802
-    → x ≡ paste image 0 (take 768 (drop 0 entry)) (length (take 768 (drop 0 entry)))
+-- words put over as many
+put-whole : (to x words : List ℕ) → length words ≡ length to → x ≡ paste to 0 words (length words) → x ≡ words
+put-whole to x words h e =
+    sym (take-all (length words) x (omega (arith, h, ap length e, length-paste to 0 words (length words) (omega (arith, h)) (omega arith))))
+    ∙ put-front to x words (omega (arith, h)) e
+
+-- a whole image brought back, by a local array
+pub image-back : (zeros before image entry x : List ℕ) → length zeros ≡ 768 → length image ≡ 768 → length entry ≡ 802
+    → before ≡ paste zeros 0 (take 768 (drop 0 entry)) (length (take 768 (drop 0 entry)))
+    → x ≡ paste image 0 before (length before)
     → x ≡ Walk.imageOf entry
-image-back image entry x h k e =
+image-back zeros before image entry x hz hi he p q =
     let long = length-take-le 768 entry (omega arith) in
-    sym (take-all (length (take 768 entry)) x (omega (arith, long, ap length e, length-paste image 0 (take 768 entry) (length (take 768 entry)) (omega (arith, long)) (omega arith))))
-    ∙ put-front image x (take 768 entry) (omega (arith, long)) e
+    let held : before ≡ take 768 entry = put-whole zeros before (take 768 entry) (long ∙ sym hz) p in
+    put-whole image x before (ap length held ∙ long ∙ sym hi) q ∙ held

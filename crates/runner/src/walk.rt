@@ -93,13 +93,6 @@ fn last_answer(at: u32, list: &[u32], size: usize) -> u32
     12
 }
 
-// The first number of two checks.
-fn first_of(one: u32, next: u32) -> u32
-    ensures { λ r. ⌜ r ≡ Walks.firstOf one next ⌝ }
-{
-    if one == 0 { next } else { one }
-}
-
 // Words put into a part, from its word `at` on.
 fn put_words(to: &mut [u32], at: usize, words: &[u32])
     requires { ⌜ at + length (now words) ≤ length (now to) ⌝ }
@@ -171,7 +164,13 @@ pub fn forward(
     ensures { λ r. ⌜ Walks.Called Walks.forward s (now (list .entry)) (Walks.standing w (now (image .entry)) (now (dst .entry)) (now (store .entry))) (r .answer) (Walks.standing (r .walk) (now (image .exit)) (now (dst .exit)) (now (store .exit))) ⌝ }
 {
     let lent = lent_answer(s, w.cursor, image, dst, list);
-    let answer = first_of(lent, next_answer(w.at, list, store.len()));
+    if lent != 0 {
+        return Walked {
+            answer: lent,
+            walk: w,
+        };
+    }
+    let answer = next_answer(w.at, list, store.len());
     if answer == 0 {
         let cursor = step_kept(s, w.at as usize, w.cursor, image, dst, list, store);
         return Walked {
@@ -207,12 +206,15 @@ fn bring_cells(op: u32, dst: &mut [u16], image: &[u32], entry: &[u32])
     }
 }
 
-// All that an entry of 802 words brings back, after an instruction with that op; the cursor.
+// All that an entry of 802 words brings back, after an instruction with that op; the cursor. The image comes by a local array, which the compiler leaves out: it
+// knows then that nothing overlaps.
 fn bring_back(op: u32, image: &mut [u32], dst: &mut [u16], entry: &[u32]) -> u32
     requires { ⌜ (length (now image) ≡ 768) × ((length (now dst) ≡ 16384) × (length (now entry) ≡ 802)) ⌝ }
     ensures { λ r. ⌜ record { image = now (image .exit); dst = now (dst .exit); cursor = r } ≡ Walks.broughtBack op (now (entry .entry)) (now (dst .entry)) ⌝ }
 {
-    put_words(image, 0, &entry[0..768]);
+    let mut before = [0u32; 768];
+    put_words(&mut before, 0, &entry[0..768]);
+    put_words(image, 0, &before);
     bring_cells(op, dst, image, entry);
     entry[768]
 }
@@ -240,7 +242,13 @@ pub fn back(
     ensures { λ r. ⌜ Walks.Called Walks.back s (now (list .entry)) (Walks.standing w (now (image .entry)) (now (dst .entry)) (now (store .entry))) (r .answer) (Walks.standing (r .walk) (now (image .exit)) (now (dst .exit)) (now (store .entry))) ⌝ }
 {
     let lent = lent_answer(s, w.cursor, image, dst, list);
-    let refusal = first_of(lent, last_answer(w.at, list, store.len()));
+    if lent != 0 {
+        return Walked {
+            answer: lent,
+            walk: w,
+        };
+    }
+    let refusal = last_answer(w.at, list, store.len());
     if refusal == 0 {
         let at = w.at - 1;
         let cursor = step_back(at as usize, image, dst, list, store);
