@@ -1,12 +1,14 @@
-/* Times the proved run beside plain.c, which is C written for speed, and beside the independent program, which says what is right.
+/* Times the proved run beside plain.c, which is C written for speed, and beside the independent program, which says what is right; and then
+ * walks.
  *
  *   bench [ROUNDS [MICROSECONDS]]
  *
- * All must do what the independent program does before they are timed: on random runs, whole and damaged, and on single instructions with
- * fields at their limits. */
+ * All must do what the independent program does before they are timed: on random runs, whole and damaged, on single instructions with
+ * fields at their limits, and on random walks. */
 #include "lists.h"
 #include "plain.h"
 #include "times.h"
+#include "walks.h"
 
 #include "../tests/independent/independent.h"
 
@@ -76,7 +78,7 @@ static void compare_random(unsigned count)
     struct met met = {0};
     FILE *cases = tmpfile();
     if (cases == NULL) exit(1);
-    ind_cases(20261115, count, 0, 0, cases);
+    ind_cases(20261115, count, 0, 0, 0, cases);
     for (rewind(cases); ind_next(cases, &c);) must_match(&c.run, &met);
     fclose(cases);
     say(&met, "random runs");
@@ -102,7 +104,6 @@ static void compare_fields(void)
                     must_match(&c, &met);
                 }
     say(&met, "single instructions");
-    printf("\n");
 }
 
 int main(int argc, char **argv)
@@ -110,6 +111,8 @@ int main(int argc, char **argv)
     unsigned rounds = argc > 1 ? (unsigned)atoi(argv[1]) : 50, us = argc > 2 ? (unsigned)atoi(argv[2]) : 400;
     compare_random(5000);
     compare_fields();
+    compare_walks(500);
     print_times(programs, PROGRAMS, rounds, us);
+    print_walks(rounds, us);
     return 0;
 }

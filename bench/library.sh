@@ -5,7 +5,8 @@
 #   one_object TOOLS PREFIX OBJECT FILE makes one object of an archive or object, by the ld and objcopy that TOOLS stands in front of
 #   compile COMPILER PROGRAM WORD...    compiles a C program from this folder's files and the words, objects and flags
 #
-# An OBJECT exports one name, PREFIX_run, which is the library's replay_run: several fit in one process.
+# An OBJECT exports PREFIX_run, which is the library's replay_run, and so for begin, forward and back where the library has them, and no other
+# name: several fit in one process.
 # On x86-64 the library is target/staticlib/libhost.a, which rt makes. Elsewhere it is that library's LLVM module, kept on its way through
 # rt's compiler and compiled by that compiler for this processor, with the same optimisation.
 # Files of its own go to target/bench.
@@ -17,6 +18,8 @@ cc=${CC:-gcc}
 # Contraction off: the LUT sum is rounded twice. Functions begin at a cache line, here and in a library's object: equal code then takes equal
 # time wherever it lands, and else up to a tenth more or less.
 flags='-std=c11 -O3 -Wall -Wextra -ffp-contract=off -falign-functions=64'
+# What is timed. A commit before M-103 has run alone, and objcopy passes over what is not there.
+timed='run begin forward back'
 
 say() { printf 'bench/%s: %s\n' "$(basename "$0")" "$*" >&2; }
 lacks() { say "$@"; exit 2; }
@@ -42,8 +45,11 @@ compile() {
 }
 
 one_object() {
+    names=''
+    for name in $timed; do names="$names --redefine-sym replay_$name=$2_$name --keep-global-symbol $2_$name"; done
     "$1ld" -r -o "$3.all" --whole-archive "$4"
-    "$1objcopy" --redefine-sym "replay_run=$2_run" --keep-global-symbol "$2_run" --set-section-alignment '.text*=64' "$3.all" "$3.new"
+    # shellcheck disable=SC2086
+    "$1objcopy" $names --set-section-alignment '.text*=64' "$3.all" "$3.new"
     rm "$3.all"
     mv "$3.new" "$3"
 }

@@ -2,7 +2,6 @@
 
 #include "../tests/independent/independent.h"
 
-#include <stdbool.h>
 #include <string.h>
 
 const uint32_t list_settings[8] = {2, 2, 17, 3, 4, 1, 64, 1023};
@@ -108,6 +107,7 @@ const struct list *make_list(unsigned k, uint32_t last)
     make_images(made.image, s->config, s->alike);
     for (unsigned i = 0; i < LIST_DST; i++) list_dst[i] = (uint16_t)any(65536);
     made.name = s->name;
+    made.narrow = s->last != 0 || s->mods != NULL || s->vds != NULL || s->config != 0 || s->alike;
     made.count = s->op > last ? 0 : s->count ? s->count : MAX_INSNS;
     if (s->last != 0 && s->last < last) last = s->last;
     for (unsigned i = 0; i < made.count; i++) make_insn(s, last, made.words + 6 * i);

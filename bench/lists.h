@@ -2,6 +2,7 @@
 #ifndef LISTS_H
 #define LISTS_H
 
+#include <stdbool.h>
 #include <stddef.h>
 #include <stdint.h>
 
@@ -12,6 +13,7 @@ enum image_kind { QUIET, MIXED, IMAGE_KINDS };
 
 struct list {
     const char *name;
+    bool narrow;                                        /* not of all that its op allows, or not of all ops */
     size_t count;                                       /* instructions; 0: an op past `last` */
     uint32_t words[LIST_WORDS];                         /* six an instruction */
     uint32_t image[IMAGE_KINDS][LIST_IMAGE];

@@ -403,8 +403,9 @@ static inline uint32_t insn_fault(const uint32_t *insn)
     return insn[OP] == LOAD && over == 0 ? 9 : 8;       /* LOAD refuses no mod below 16 by 8 */
 }
 
+/* Of the list's words the first `scanned` are looked at. */
 static inline uint32_t fault(const uint32_t *settings, const uint32_t *image, size_t image_len, size_t dst_len, const uint32_t *list,
-                             size_t list_len, uint32_t *place)
+                             size_t list_len, size_t scanned, uint32_t *place)
 {
     if (image_len != IMAGE_WORDS) return 1;
     if (dst_len != DST_CELLS) return 2;
@@ -417,7 +418,7 @@ static inline uint32_t fault(const uint32_t *settings, const uint32_t *image, si
     uint32_t over = 0;
     EACH_LANE(n) over |= config[n] >> 18 | (flag[n] | use[n]) >> 1 | misc[n] >> 12;
     if (over != 0) return 6;
-    for (size_t i = 0; i < list_len; i += WORDS) {
+    for (size_t i = 0; i < scanned; i += WORDS) {
         uint32_t answer = insn_fault(list + i);
         if (answer != 0) return *place = (uint32_t)(i / WORDS), answer;
     }
@@ -442,20 +443,29 @@ static inline void begin(struct run *r, const uint32_t *settings, uint32_t *imag
     memcpy(r->ties, register9, sizeof r->ties);     /* zeros, copied: gcc sets a row by rep stos, a tenth of the time of a list of one */
 }
 
+static inline void end(struct run *r)
+{
+    uint32_t *flag = at(r, LANE_FLAG);
+    EACH_LANE(n) flag[n] = r->flag[n] & 1;
+}
+
+#ifndef STEPS_ONLY
+
 uint32_t plain_run(const uint32_t settings[8], uint32_t *image, size_t image_len, uint16_t *dst, size_t dst_len,
                    const uint32_t *list, size_t list_len, uint32_t outcome[12])
 {
-    uint32_t place = 0, answer = fault(settings, image, image_len, dst_len, list, list_len, &place), steps = 0, cursor = settings[3];
+    uint32_t place = 0, answer = fault(settings, image, image_len, dst_len, list, list_len, list_len, &place), steps = 0, cursor = settings[3];
     EACH_COLUMN(j) outcome[4 + j] = 0;
     if (answer == 0) {
         struct run r;
         begin(&r, settings, image, dst);
         for (size_t i = 0; i < list_len; i += WORDS) step(&r, list + i);
-        uint32_t *flag = at(&r, LANE_FLAG);
-        EACH_LANE(n) flag[n] = r.flag[n] & 1;
+        end(&r);
         EACH_COLUMN(j) outcome[4 + j] = r.ties[j] + r.ties[8 + j] + r.ties[16 + j] + r.ties[24 + j];
         steps = (uint32_t)(list_len / WORDS), cursor = r.cursor;
     }
     outcome[0] = answer, outcome[1] = steps, outcome[2] = place, outcome[3] = cursor;
     return answer;
 }
+
+#endif

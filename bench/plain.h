@@ -1,5 +1,5 @@
 /* The run of document 01, and of the requests of document 02 that are in, in plain C, as fast as C by rows goes: what the proved run is
- * timed against. Same interface as replay_run. */
+ * timed against; and a walk over a list. Same interfaces as replay_run, replay_begin, replay_forward and replay_back. */
 #ifndef PLAIN_H
 #define PLAIN_H
 
@@ -8,5 +8,11 @@
 
 uint32_t plain_run(const uint32_t settings[8], uint32_t *image, size_t image_len, uint16_t *dst, size_t dst_len,
                    const uint32_t *list, size_t list_len, uint32_t outcome[12]);
+uint32_t plain_begin(const uint32_t settings[8], const uint32_t *image, size_t image_len, const uint16_t *dst, size_t dst_len,
+                     const uint32_t *list, size_t list_len, uint32_t outcome[4], uint32_t walk[2]);
+uint32_t plain_forward(const uint32_t settings[8], uint32_t *image, size_t image_len, uint16_t *dst, size_t dst_len,
+                       const uint32_t *list, size_t list_len, uint32_t *store, size_t store_len, uint32_t walk[2]);
+uint32_t plain_back(const uint32_t settings[8], uint32_t *image, size_t image_len, uint16_t *dst, size_t dst_len,
+                    const uint32_t *list, size_t list_len, uint32_t *store, size_t store_len, uint32_t walk[2]);
 
 #endif

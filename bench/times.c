@@ -1,8 +1,6 @@
 #define _POSIX_C_SOURCE 200809L
 #include "times.h"
 
-#include "lists.h"
-
 #include "../tests/independent/independent.h"
 
 #include <stdbool.h>
@@ -11,7 +9,7 @@
 #include <string.h>
 #include <time.h>
 
-static double now_ns(void)
+double now_ns(void)
 {
     struct timespec t;
     clock_gettime(CLOCK_MONOTONIC, &t);
@@ -40,12 +38,13 @@ static void once(run_fn *run, const struct list *l, enum image_kind kind, struct
 
 /* Dst is copied before the clock starts and not for each run, as the copy takes longer than a short list. A run then meets what the one before it
  * stored, which is the same by every program: each starts from the same Dst, in the same place. */
-static double several(run_fn *run, const struct list *l, enum image_kind kind, unsigned times)
+static double several(const struct task *task, unsigned times)
 {
     static struct state s;
+    const struct program *p = task->by;
     memcpy(s.dst, list_dst, sizeof s.dst);
     double start = now_ns();
-    for (unsigned t = 0; t < times; t++) once(run, l, kind, &s);
+    for (unsigned t = 0; t < times; t++) once(p->run, task->list, task->kind, &s);
     return (now_ns() - start) / times;
 }
 
@@ -94,40 +93,43 @@ static uint32_t last_known(const struct program *programs, unsigned count)
     return last;
 }
 
-struct times { double ns[MAX_PROGRAMS], ratio[MAX_PROGRAMS]; };
-
 static int by_size(const void *a, const void *b)
 {
     double x = *(const double *)a, y = *(const double *)b;
     return (x > y) - (x < y);
 }
 
-/* Of an instruction by each program: the best time, and the first program's time over its own, which is the middle one of the rounds' ratios.
- * The programs take turns, so that what else the machine does falls on all; within a round it hardly changes. */
-static struct times measure(const struct program *programs, unsigned count, const struct list *l, enum image_kind kind, unsigned rounds,
-                            unsigned us)
+void take_turns(const struct task *tasks, unsigned count, unsigned rounds, unsigned us, double ns[count][rounds])
 {
-    struct times found = {0};
-    unsigned times[MAX_PROGRAMS];
-    double ratios[MAX_PROGRAMS][rounds];
+    unsigned times[count];
+    for (unsigned i = 0; i < count; i++) times[i] = 1 + (unsigned)(1e3 * us / tasks[i].several(&tasks[i], 2));
+    for (unsigned r = 0; r < rounds; r++)
+        for (unsigned i = 0; i < count; i++) ns[i][r] = tasks[i].several(&tasks[i], times[i]) / (double)tasks[i].list->count;
+}
+
+double best(unsigned rounds, const double ns[rounds])
+{
+    double least = ns[0];
+    for (unsigned r = 1; r < rounds; r++)
+        if (ns[r] < least) least = ns[r];
+    return least;
+}
+
+double ratio(unsigned rounds, const double ns[rounds], const double other[rounds])
+{
+    double ratios[rounds];
+    for (unsigned r = 0; r < rounds; r++) ratios[r] = ns[r] / other[r];
+    qsort(ratios, rounds, sizeof *ratios, by_size);
+    return ratios[rounds / 2];
+}
+
+static void measure(const struct program *programs, unsigned count, const struct list *l, enum image_kind kind, unsigned rounds, unsigned us,
+                    double ns[count][rounds])
+{
+    struct task tasks[count];
     must_agree(programs, count, l, kind);
-    for (unsigned i = 0; i < count; i++) {
-        times[i] = 1 + (unsigned)(1e3 * us / several(programs[i].run, l, kind, 2));
-        found.ns[i] = 1e30;
-    }
-    for (unsigned r = 0; r < rounds; r++) {
-        double ns[MAX_PROGRAMS];
-        for (unsigned i = 0; i < count; i++) {
-            ns[i] = several(programs[i].run, l, kind, times[i]) / (double)l->count;
-            if (ns[i] < found.ns[i]) found.ns[i] = ns[i];
-            ratios[i][r] = ns[0] / ns[i];
-        }
-    }
-    for (unsigned i = 0; i < count; i++) {
-        qsort(ratios[i], rounds, sizeof ratios[i][0], by_size);
-        found.ratio[i] = ratios[i][rounds / 2];
-    }
-    return found;
+    for (unsigned i = 0; i < count; i++) tasks[i] = (struct task){several, &programs[i], l, kind};
+    take_turns(tasks, count, rounds, us, ns);
 }
 
 void print_times(const struct program *programs, unsigned count, unsigned rounds, unsigned us)
@@ -145,13 +147,15 @@ void print_times(const struct program *programs, unsigned count, unsigned rounds
 
     const struct list *l;
     uint32_t last = last_known(programs, count);
+    double ns[count][rounds];
     for (unsigned k = 0; (l = make_list(k, last)) != NULL; k++) {
         if (l->count == 0) continue;
-        struct times mixed = measure(programs, count, l, MIXED, rounds, us), quiet = measure(programs, count, l, QUIET, rounds, us);
+        measure(programs, count, l, MIXED, rounds, us, ns);
         printf("| %-13s |", l->name);
-        for (unsigned i = 0; i < count; i++) printf(" %7.1f |", mixed.ns[i]);
-        for (unsigned i = 1; i < count; i++) printf(i == 1 ? " **%.2f** |" : " %.2f |", mixed.ratio[i]);
-        printf(" **%.2f** |\n", quiet.ratio[1]);
+        for (unsigned i = 0; i < count; i++) printf(" %7.1f |", best(rounds, ns[i]));
+        for (unsigned i = 1; i < count; i++) printf(i == 1 ? " **%.2f** |" : " %.2f |", ratio(rounds, ns[0], ns[i]));
+        measure(programs, count, l, QUIET, rounds, us, ns);
+        printf(" **%.2f** |\n", ratio(rounds, ns[0], ns[1]));
         fflush(stdout);
     }
 }

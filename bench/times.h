@@ -2,6 +2,8 @@
 #ifndef TIMES_H
 #define TIMES_H
 
+#include "lists.h"
+
 #include <stddef.h>
 #include <stdint.h>
 
@@ -17,12 +19,28 @@ struct program {
     run_fn *run;
 };
 
-enum { MAX_PROGRAMS = 4 };
-
 /* Times every list, in rounds of about `us` microseconds for each program, and prints a table in Markdown: ns an instruction of each program
  * and the first one's time over each other's, from a mixed image; then the first one's over the second's from a quiet one.
  * Where two programs do not agree, the process ends with a complaint: a fast wrong answer is not a time. Ops that one of them
  * does not know are left out, and ties that one of them does not count are not compared with it. */
 void print_times(const struct program *programs, unsigned count, unsigned rounds, unsigned us);
+
+double now_ns(void);
+
+/* Something that is timed: `several` does it so many times, and says how many ns one takes. */
+struct task {
+    double (*several)(const struct task *task, unsigned times);
+    const void *by;
+    const struct list *list;
+    enum image_kind kind;
+};
+
+/* The ns of an instruction by each task, round by round. They take turns, so that what else the machine does falls on all; within a round it
+ * hardly changes. */
+void take_turns(const struct task *tasks, unsigned count, unsigned rounds, unsigned us, double ns[count][rounds]);
+
+/* The best of the rounds, and the middle one of the rounds' ratios. */
+double best(unsigned rounds, const double ns[rounds]);
+double ratio(unsigned rounds, const double ns[rounds], const double other[rounds]);
 
 #endif
