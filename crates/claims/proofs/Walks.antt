@@ -46,7 +46,7 @@ module _ (i : Insn) (a : ℕ) (m : Machine) (long : length (m .image) ≡ 768) w
 
   pub entry-long : length (Walk.entryAt i a m) ≡ 802
   unfolding Walk.entryAt Walk.keptCells
-  entry-long = length-append (m .image) rest ∙ omega (arith, length-build 32 (λ L. pick (eqb (i .op) 16) (pick (Walk.picksOdd (m .image) a L) (oddCell (m .dst) a L) (evenCell (m .dst) a L)) 0))
+  entry-long = length-append (m .image) rest ∙ ap (λ (n : ℕ). length (m .image) + suc (suc n)) (length-build 32 _) ∙ ap (λ (n : ℕ). n + 34) long
 
   image-held : Walk.imageOf (Walk.entryAt i a m) ≡ m .image
   unfolding Walk.entryAt
@@ -132,11 +132,15 @@ module _ (i : Insn) (a : ℕ) (m : Machine) (long : length (m .image) ≡ 768) (
       made : Cells
       made = cellsAfter i a (m .image) (m .dst) L
 
+  -- Dst with the entry's cells at address b, by the columns that an image chooses
+  abbrev brought : List ℕ → ℕ → List ℕ
+  brought x b = withCells b left (λ L. withCell (Walk.picksOdd x b L) (Walk.cellOf kept L) (evenCell left b L) (oddCell left b L))
+
   dst-store : i .op ≡ 16 → Walk.withKept kept left ≡ m .dst
   unfolding Walk.withKept dstAt
   dst-store o =
-      ap (λ (x : List ℕ). withCells (Walk.addressOf kept) left (λ L. withCell (Walk.picksOdd x (Walk.addressOf kept) L) (Walk.cellOf kept L) (evenCell left (Walk.addressOf kept) L) (oddCell left (Walk.addressOf kept) L))) (image-held i a m long)
-      ∙ ap (λ (b : ℕ). withCells b left (λ L. withCell (Walk.picksOdd (m .image) b L) (Walk.cellOf kept L) (evenCell left b L) (oddCell left b L))) (address-held i a m long low)
+      ap (λ (x : List ℕ). brought x (Walk.addressOf kept)) (image-held i a m long)
+      ∙ ap (λ (b : ℕ). brought (m .image) b) (address-held i a m long low)
       ∙ cells-same a left _ (cellsIn (m .dst) a) (cells-left o)
       ∙ over-cells a (m .dst) (cellsAfter i a (m .image) (m .dst)) (cellsIn (m .dst) a)
       ∙ own-cells a (m .dst) wide
@@ -363,7 +367,9 @@ module _ (s : Settings) (image dst list room : List ℕ) (calls : List Event) (w
       zero-of : (j : ℕ) → j ≤ 0 → j ≡ 0
       zero-of j l = omega arith
 
-  stood : Somewhere s list (begin s image dst) (checked .passed .image-long) (checked .passed .dst-long) (0 + accepted Walk.forward calls) (accepted Walk.back calls) (lastOf (startOf s image dst list room) calls)
+  stood : Somewhere s list (begin s image dst) (checked .passed .image-long) (checked .passed .dst-long) (0 + accepted Walk.forward calls)
+      (accepted Walk.back calls)
+      (lastOf (startOf s image dst list room) calls)
   stood = any-calls s list (begin s image dst) (checked .passed .image-long) (checked .passed .dst-long) calls 0 (startOf s image dst list room) start-held (w .made)
 
   difference : (at n b : ℕ) → at + b ≡ 0 + n → (b ≤ n) × (at ≡ n - b)

@@ -1,6 +1,6 @@
 -- What a registrar may rely on. Each claim stands under one sentence, with its premises; proofs/Claims.antt proves it by its name. They speak of runs
--- by demand 2's rules (`Ran`, which is what `run` promises: crate runner, specs/Run), of a walk's steps (`Called`, which `forward` and `back` promise: specs/Walk), of readings and writings (crate listing, specs/Listing), and of
--- one lane's instruction (crate lane, specs/Refusals).
+-- by demand 2's rules (`Ran`, which is what `run` promises: crate runner, specs/Run), of a walk's steps (`Called`, which `forward` and `back` promise:
+-- specs/Walk), of readings and writings (crate listing, specs/Listing), and of one lane's instruction (crate lane, specs/Refusals).
 use Prim.Native.Nat.{ℕ, zero, suc, _+_, _-_, _*_, _/_, _%_, _^_, _<_, _≤_}
 use mathlib.Core.Path.{_≡_}
 use mathlib.Core.Bool.{Bool, true, false, not}
@@ -276,7 +276,7 @@ abbrev pub lastOf : Standing → List Event → Standing
 lastOf x [] = x
 lastOf x (e ∷ es) = lastOf (e .after) es
 
--- How many accepted steps they were, forward or back; a refused call is none.
+-- How many accepted steps of one kind, forward or back, a call was, and the calls were; a refused call is none.
 abbrev pub stepsOf : Call → Call → ℕ → ℕ
 stepsOf forward forward answer = flagOf (eqb answer 0)
 stepsOf back back answer = flagOf (eqb answer 0)
