@@ -1,5 +1,5 @@
-/* Times the proved run beside plain.c, which is C written for speed, and beside the independent program, which says what is right; and then
- * walks.
+/* Times the proved run beside plain.c, which is C written for speed, and beside the independent program, which says what is right; then
+ * walks, and BF16's routine by itself.
  *
  *   bench [ROUNDS [MICROSECONDS]]
  *
@@ -8,6 +8,7 @@
 #include "lists.h"
 #include "plain.h"
 #include "times.h"
+#include "unpack.h"
 #include "walks.h"
 
 #include "../tests/independent/independent.h"
@@ -15,8 +16,9 @@
 #include <stdlib.h>
 #include <string.h>
 
-/* The library's replay_run; and where CLANG is defined, plain.c a second time, compiled by clang. */
+/* The library's replay_run and its BF16 routine; and where CLANG is defined, plain.c a second time, compiled by clang. */
 run_fn proved_run, plain_clang_run;
+unpack_fn proved_unpack, plain_clang_unpack;
 
 static const struct program programs[] = {
     {"proved", proved_run},
@@ -27,6 +29,14 @@ static const struct program programs[] = {
     {"independent", ind_run},
 };
 enum { PROGRAMS = sizeof programs / sizeof *programs };
+
+static const struct unpacker unpackers[] = {
+    {"proved", proved_unpack},
+    {"plain", plain_unpack},
+#ifdef CLANG
+    {"plain by clang", plain_clang_unpack},
+#endif
+};
 
 /* What a program leaves of a case. */
 struct left {
@@ -114,5 +124,6 @@ int main(int argc, char **argv)
     compare_walks(500);
     print_times(programs, PROGRAMS, rounds, us);
     print_walks(rounds, us);
+    print_unpacking(unpackers, sizeof unpackers / sizeof *unpackers, rounds, us);
     return 0;
 }

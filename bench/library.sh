@@ -2,13 +2,14 @@
 # shellcheck shell=sh disable=SC2154
 #
 #   build_library TREE PREFIX OBJECT    proves and builds the library of TREE for this machine
-#   one_object TOOLS PREFIX OBJECT FILE makes one object of an archive or object, by the ld and objcopy that TOOLS stands in front of
+#   x86_64_object TOOLS PREFIX OBJECT TREE MODULE
+#                                       makes an object of the library that rt made in TREE, by the ld and objcopy that TOOLS stands in front of
 #   compile COMPILER PROGRAM WORD...    compiles a C program from this folder's files and the words, objects and flags
 #
-# An OBJECT exports PREFIX_run, which is the library's replay_run, and so for begin, forward and back where the library has them, and no other
-# name: several fit in one process.
-# On x86-64 the library is target/staticlib/libhost.a, which rt makes. Elsewhere it is that library's LLVM module, kept on its way through
-# rt's compiler and compiled by that compiler for this processor, with the same optimisation.
+# An OBJECT exports PREFIX_run, which is the library's replay_run, and so for begin, forward and back where the library has them, and
+# PREFIX_unpack, which is unpack.ll's loop; and no other name: several fit in one process.
+# On x86-64 the library is target/staticlib/libhost.a, which rt makes, and the loop is added. Elsewhere it is that library's LLVM module, kept
+# on its way through rt's compiler and compiled by that compiler for this processor, with the same optimisation, the loop in it.
 # Files of its own go to target/bench.
 
 root=$(dirname "$here")
@@ -19,7 +20,7 @@ cc=${CC:-gcc}
 # time wherever it lands, and else up to a tenth more or less.
 flags='-std=c11 -O3 -Wall -Wextra -ffp-contract=off -falign-functions=64'
 # What is timed. A commit before M-103 has run alone, and objcopy passes over what is not there.
-timed='run begin forward back'
+timed='run begin forward back unpack'
 
 say() { printf 'bench/%s: %s\n' "$(basename "$0")" "$*" >&2; }
 lacks() { say "$@"; exit 2; }
@@ -41,41 +42,54 @@ compile() {
     compiler=$1 program=$2
     shift 2
     # shellcheck disable=SC2086
-    "$compiler" $flags -o "$program" "$here/lists.c" "$here/times.c" "$@"
+    "$compiler" $flags -o "$program" "$here/lists.c" "$here/times.c" "$here/unpack.c" "$@"
 }
 
+# one_object TOOLS PREFIX OBJECT FILE..: one object of archives and objects.
 one_object() {
-    names=''
-    for name in $timed; do names="$names --redefine-sym replay_$name=$2_$name --keep-global-symbol $2_$name"; done
-    "$1ld" -r -o "$3.all" --whole-archive "$4"
+    with=$1 prefix=$2 whole=$3 names=''
+    shift 3
+    for name in $timed; do names="$names --redefine-sym replay_$name=${prefix}_$name --keep-global-symbol ${prefix}_$name"; done
+    "${with}ld" -r -o "$whole.all" --whole-archive "$@"
     # shellcheck disable=SC2086
-    "$1objcopy" $names --set-section-alignment '.text*=64' "$3.all" "$3.new"
-    rm "$3.all"
-    mv "$3.new" "$3"
+    "${with}objcopy" $names --set-section-alignment '.text*=64' "$whole.all" "$whole.new"
+    rm "$whole.all"
+    mv "$whole.new" "$whole"
 }
 
 build_library() {
-    if [ "$machine" = x86_64 ]; then
-        staticlib "$1"
-        one_object '' "$2" "$3" "$1/target/staticlib/libhost.a"
-        return
-    fi
     rm -f "$3.bc"
     keeping_kit "$out/kit" "$3.bc"
     staticlib "$1" "$out/kit"
     [ -f "$3.bc" ] || lacks "rt's compiler was not handed a module"
-    # The module names the processor that it was meant for; without that it is compiled for this one.
-    from_ir="$tools/bin/clang --no-default-config -fintegrated-cc1 -Wno-override-module -x ir"
-    $from_ir --target=x86_64-unknown-linux-gnu -S -emit-llvm -O0 -Xclang -disable-llvm-passes "$3.bc" -o "$3.x86-64.ll"
-    sed -e '/^target /d' -e 's/ "target-cpu"="[^"]*"//' "$3.x86-64.ll" >"$3.ll"
-    $from_ir --target="$machine-unknown-linux-gnu" -c -O3 -fPIC "$3.ll" -o "$3.own"
-    one_object '' "$2" "$3" "$3.own"
+    if [ "$machine" = x86_64 ]; then
+        x86_64_object '' "$2" "$3" "$1" "$3.bc"
+    else
+        with_loop "$3.bc" "$machine" "$3.own"
+        one_object '' "$2" "$3" "$3.own"
+    fi
 }
 
-# staticlib TREE [KIT]: rt staticlib host there, by the kit given or else rt's own.
+# The library as rt made it, and of its MODULE the loop alone.
+x86_64_object() {
+    with_loop "$5" x86_64 "$3.loop"
+    "$1objcopy" --keep-global-symbol replay_unpack "$3.loop"
+    one_object "$1" "$2" "$3" "$4/target/staticlib/libhost.a" "$3.loop"
+}
+
+# with_loop MODULE MACHINE OBJECT: the module and unpack.ll's loop, compiled for a machine.
+with_loop() {
+    from_ir="$tools/bin/clang --no-default-config -fintegrated-cc1 -Wno-override-module -x ir"
+    $from_ir --target=x86_64-unknown-linux-gnu -S -emit-llvm -O0 -Xclang -disable-llvm-passes "$1" -o "$3.x86-64.ll"
+    # The module names the processor that it was meant for; without that it is compiled for the machine's.
+    sed -e '/^target /d' -e 's/ "target-cpu"="[^"]*"//' "$3.x86-64.ll" | cat - "$here/unpack.ll" >"$3.ll"
+    $from_ir --target="$2-unknown-linux-gnu" -c -O3 -fPIC "$3.ll" -o "$3"
+}
+
+# staticlib TREE KIT: rt staticlib host there, by that kit.
 staticlib() {
     say "rt staticlib host in $1: it proves first, which takes minutes where it is not proved yet"
-    (cd "$1" && ${2:+env "RATTLE_HOME=$2"} rt staticlib host) >"$out/log" 2>&1 || {
+    (cd "$1" && RATTLE_HOME=$2 rt staticlib host) >"$out/log" 2>&1 || {
         cat "$out/log" >&2
         lacks "rt staticlib host failed in $1"
     }

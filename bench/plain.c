@@ -468,4 +468,9 @@ uint32_t plain_run(const uint32_t settings[8], uint32_t *image, size_t image_len
     return answer;
 }
 
+void plain_unpack(const uint16_t *restrict cells, uint32_t *restrict words, size_t count)
+{
+    for (size_t n = 0; n < count; n++) words[n] = bf16(cells[n]);
+}
+
 #endif

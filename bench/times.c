@@ -104,7 +104,7 @@ void take_turns(const struct task *tasks, unsigned count, unsigned rounds, unsig
     unsigned times[count];
     for (unsigned i = 0; i < count; i++) times[i] = 1 + (unsigned)(1e3 * us / tasks[i].several(&tasks[i], 2));
     for (unsigned r = 0; r < rounds; r++)
-        for (unsigned i = 0; i < count; i++) ns[i][r] = tasks[i].several(&tasks[i], times[i]) / (double)tasks[i].list->count;
+        for (unsigned i = 0; i < count; i++) ns[i][r] = tasks[i].several(&tasks[i], times[i]) / (double)tasks[i].count;
 }
 
 double best(unsigned rounds, const double ns[rounds])
@@ -128,7 +128,7 @@ static void measure(const struct program *programs, unsigned count, const struct
 {
     struct task tasks[count];
     must_agree(programs, count, l, kind);
-    for (unsigned i = 0; i < count; i++) tasks[i] = (struct task){several, &programs[i], l, kind};
+    for (unsigned i = 0; i < count; i++) tasks[i] = (struct task){several, &programs[i], l->count, l, kind};
     take_turns(tasks, count, rounds, us, ns);
 }
 

@@ -31,11 +31,12 @@ double now_ns(void);
 struct task {
     double (*several)(const struct task *task, unsigned times);
     const void *by;
-    const struct list *list;
+    size_t count;               /* what is timed of it: instructions, steps or cells */
+    const struct list *list;    /* NULL: of no list */
     enum image_kind kind;
 };
 
-/* The ns of an instruction by each task, round by round. They take turns, so that what else the machine does falls on all; within a round it
+/* The ns of one of the count by each task, round by round. They take turns, so that what else the machine does falls on all; within a round it
  * hardly changes. */
 void take_turns(const struct task *tasks, unsigned count, unsigned rounds, unsigned us, double ns[count][rounds]);
 

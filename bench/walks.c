@@ -239,7 +239,7 @@ void print_walks(unsigned rounds, unsigned us)
         if (l->narrow) continue;
         struct task tasks[JOBS];
         must_agree(l, MIXED);
-        for (unsigned i = 0; i < JOBS; i++) tasks[i] = (struct task){several, &jobs[i], l, MIXED};
+        for (unsigned i = 0; i < JOBS; i++) tasks[i] = (struct task){several, &jobs[i], l->count, l, MIXED};
         take_turns(tasks, JOBS, rounds, us, ns);
         for (unsigned r = 0; r < rounds; r++) parts[r] = ns[EACH][r] + ns[COPY][r];
         printf("| %-10s |", l->name);

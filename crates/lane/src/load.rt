@@ -81,7 +81,9 @@ fn bf16(cell: u16) -> u32
     ensures { λ r. ⌜ r ≡ Load.bf16 cell ⌝ }
 {
     let x = cell as u32;
-    x / 0x8000 * 0x80000000 + x % 256 * 0x800000 + x / 256 % 128 * 0x10000
+    // the shift brings the digits to their place and the sign just above them; extended from there, it is at its own place too
+    let extended = wrapping_sub_u32((x << 8) ^ 0x800000, 0x800000);
+    (extended & 0x807F0000) | ((x << 23) & 0x7F800000)
 }
 
 // A sign and `width` bits of magnitude, from bit `place` up.
