@@ -70,20 +70,21 @@ build_library() {
     fi
 }
 
-# The library as rt made it, and of its MODULE the loop alone.
+# The library as rt made it, and of its MODULE the loop alone. The rest is left out after the module is compiled and not before: the compiler
+# simplifies a function by its callers, and is to do to the routine what it does in the library.
 x86_64_object() {
-    with_loop "$5" x86_64 "$3.loop"
-    "$1objcopy" --keep-global-symbol replay_unpack "$3.loop"
+    with_loop "$5" x86_64 "$3.own" -ffunction-sections
+    "$1ld" -r --gc-sections -e replay_unpack -o "$3.loop" "$3.own"
     one_object "$1" "$2" "$3" "$4/target/staticlib/libhost.a" "$3.loop"
 }
 
-# with_loop MODULE MACHINE OBJECT: the module and unpack.ll's loop, compiled for a machine.
+# with_loop MODULE MACHINE OBJECT [FLAG]: the module and unpack.ll's loop, compiled for a machine.
 with_loop() {
     from_ir="$tools/bin/clang --no-default-config -fintegrated-cc1 -Wno-override-module -x ir"
     $from_ir --target=x86_64-unknown-linux-gnu -S -emit-llvm -O0 -Xclang -disable-llvm-passes "$1" -o "$3.x86-64.ll"
     # The module names the processor that it was meant for; without that it is compiled for the machine's.
     sed -e '/^target /d' -e 's/ "target-cpu"="[^"]*"//' "$3.x86-64.ll" | cat - "$here/unpack.ll" >"$3.ll"
-    $from_ir --target="$2-unknown-linux-gnu" -c -O3 -fPIC "$3.ll" -o "$3"
+    $from_ir --target="$2-unknown-linux-gnu" -c -O3 -fPIC ${4-} "$3.ll" -o "$3"
 }
 
 # staticlib TREE KIT: rt staticlib host there, by that kit.

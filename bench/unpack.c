@@ -36,7 +36,7 @@ static double several(const struct task *task, unsigned times)
 
 void print_unpacking(const struct unpacker *unpackers, unsigned count, unsigned rounds, unsigned us)
 {
-    static const size_t counts[] = {LIST_DST, 1024};
+    static const size_t counts[] = {LIST_DST, 1024};        /* the second are in the first cache, words and all */
     double ns[count][rounds];
     must_agree(unpackers, count);
     printf("\nns a cell of BF16 unpacked by the routine alone, the best of %u rounds. Ratios: the middle one of the rounds.\n\n| cells |", rounds);

@@ -13,8 +13,8 @@ struct unpacker {
     unpack_fn *unpack;
 };
 
-/* Times a Dst's cells, and as many as fit in the first cache, and prints a table in Markdown: ns a cell by each unpacker, and the first one's
- * time over each other's. Where two do not agree on one of the 65,536 cells, the process ends with a complaint. */
+/* Times a Dst's cells, and so many that they stay in the first cache, and prints a table in Markdown: ns a cell by each unpacker, and the
+ * first one's time over each other's. Where two do not agree on each of the 65,536 cells, the process ends with a complaint. */
 void print_unpacking(const struct unpacker *unpackers, unsigned count, unsigned rounds, unsigned us);
 
 #endif

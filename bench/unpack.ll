@@ -1,8 +1,9 @@
-; LOAD's BF16 routine over `count` cells. Appended to a library's own module, since the routine is private there: it is then compiled as in the
-; library, by rt's compiler, and stands in no loop but this.
+; LOAD's BF16 routine over `count` cells, in a loop of its own. It is appended to a library's module and compiled with it, by rt's compiler, since
+; the routine is private there.
 define void @replay_unpack(ptr noalias %cells, ptr noalias %words, i64 %count) {
 start:
-  br label %each
+  %none = icmp eq i64 %count, 0
+  br i1 %none, label %end, label %each
 each:
   %n = phi i64 [ 0, %start ], [ %next, %each ]
   %from = getelementptr i16, ptr %cells, i64 %n
