@@ -84,7 +84,7 @@ with_loop() {
     $from_ir --target=x86_64-unknown-linux-gnu -S -emit-llvm -O0 -Xclang -disable-llvm-passes "$1" -o "$3.x86-64.ll"
     # The module names the processor that it was meant for; without that it is compiled for the machine's.
     sed -e '/^target /d' -e 's/ "target-cpu"="[^"]*"//' "$3.x86-64.ll" | cat - "$here/unpack.ll" >"$3.ll"
-    $from_ir --target="$2-unknown-linux-gnu" -c -O3 -fPIC ${4-} "$3.ll" -o "$3"
+    $from_ir --target="$2-unknown-linux-gnu" -c -O3 -fPIC ${4:+"$4"} "$3.ll" -o "$3"
 }
 
 # staticlib TREE KIT: rt staticlib host there, by that kit.
