@@ -51,7 +51,7 @@ static void answer_reading(const struct reading_case *r, FILE *out)
 {
     static uint32_t list[ROOM_LIST];
     uint32_t settings[8], o[5];
-    for (size_t i = 0; i < ROOM_LIST; i++) list[i] = UNWRITTEN;
+    for (size_t i = 0; i < r->room; i++) list[i] = UNWRITTEN;
     ind_read(r->text, r->text_len, list, r->room, settings, o);
     print(out, READING_CASE, o, 5, checksum(checksum(NOTHING, settings, 8), list, r->room));
 }
@@ -97,12 +97,13 @@ void ind_answers(FILE *in, FILE *out)
     while (ind_next(in, &c)) answer(&c, out);
 }
 
-/* The list in the form of a listing, whatever its numbers: one that is in order can be given to replay as it is. */
+/* The list in the form of a listing, whatever its numbers: one that is in order, and that the program can hold, can be given to replay as it is. */
 static void show_list(const uint32_t settings[8], const uint32_t *list, size_t list_len, FILE *out)
 {
     static const char *const names[8] = { "edition", "srcb", "offset", "cursor", "stride0", "stride1", "stride2", "stride3" };
+    fprintf(out, "format=2\n");
     for (int i = 0; i < 8; i++) fprintf(out, i < 2 ? "%s=%" PRIu32 "\n" : "%s=%04" PRIu32 "\n", names[i], settings[i]);
-    fprintf(out, "count=%04zu\n", list_len / 6);
+    fprintf(out, "count=%05zu\n", list_len / 6);
     for (size_t i = 0; i + 6 <= list_len; i += 6) {
         const uint32_t *n = list + i;
         if (ind_op_known(n[F_OP])) fprintf(out, "op=%s", ind_names[n[F_OP]]);
@@ -206,6 +207,17 @@ static void show_lane(const struct lane_case *l, FILE *out)
                 a.own[s] != l->own[s] ? " changed" : "");
 }
 
+/* The LFs that fill a text up are told, not printed. */
+static void show_text(const struct reading_case *r, FILE *out)
+{
+    size_t len = r->text_len;
+    while (len > 1 && r->text[len - 1] == 10 && r->text[len - 2] == 10) len--;
+    fwrite(r->text, 1, len, out);
+    fprintf(out, "\n%zu bytes, ", r->text_len);
+    if (len < r->text_len) fprintf(out, "the last %zu of them LFs that are not shown, ", r->text_len - len);
+    fprintf(out, "read into %zu words\n", r->room);
+}
+
 static void show(const struct any_case *c, FILE *out)
 {
     switch (c->kind) {
@@ -223,8 +235,7 @@ static void show(const struct any_case *c, FILE *out)
         show_walk(&c->walk, out);
         break;
     default:
-        fwrite(c->reading.text, 1, c->reading.text_len, out);
-        fprintf(out, "\n%zu bytes, read into %zu words\n", c->reading.text_len, c->reading.room);
+        show_text(&c->reading, out);
     }
 }
 

@@ -15,6 +15,11 @@ static const uint16_t cells[16] = {
 };
 static const uint8_t likely[16] = { 48, 49, 50, 53, 57, 61, 32, 10, 13, 111, 65, 68, 73, 47, 58, 0 };
 static const char *const odd_names[6] = { "LOADX", "LOA", "Nop", "", "SFPABS", "STOR" };
+/* Instead of format=2, or before an old listing. */
+static const char *const first_lines[16] = {
+    "format=1\n", "format=3\n", "format=2\r\n", "format=2", " format=2\n", "format=2 \n", "format= 2\n", "format=02\n", "format=2\nformat=2\n", "format=1\n",
+    "format=3\n", "\nformat=2\n", "format=2\n\n", "FORMAT=2\n", "format=\n", "format=2\n",
+};
 /* By 9 for LOAD, and for STORE by 8 like any other. */
 static const uint32_t refused_mods[4] = { 3, 4, 10, 12 };
 
@@ -118,6 +123,9 @@ static void make_swap(uint32_t insn[6])
     else if (t < 6) insn[F_VC] %= 8, insn[F_VD] %= 8;
 }
 
+/* The most instructions of a list, by M-105, and of an old listing, which was every list's once. Not shared with listing.c either. */
+enum { MOST = 16384, OLD_MOST = 1024 };
+
 /* A list: the instructions that are given, which repeat up to its length. */
 struct list {
     uint32_t word[ROOM_LIST];
@@ -165,7 +173,7 @@ static void damage_length(struct list *l)
 static void damage_too_many(struct list *l)
 {
     uint32_t e = below(12);
-    l->len = e < 6 ? 6150 + e : 6150;
+    l->len = e < 6 ? 6 * (MOST + 1) + e : e == 6 ? ROOM_LIST : 6 * (MOST + 1);
 }
 
 static uint32_t load_or_store(void) { return below(3) == 0 ? STORE : LOAD; }
@@ -200,6 +208,20 @@ static void damage_insn(uint32_t *list, size_t count)
         insn[F_VC] = below(4) == 0;
         insn[F_VD] = below(16);
         insn[F_MOD] = refused_mods[below(4)];
+    }
+}
+
+/* By each of 7, 8 and 9 alike, and often a STORE. */
+static void damage_one(uint32_t *insn)
+{
+    uint32_t t = below(4), w = word();
+    if (t == 0) {
+        insn[F_OP] = OPS + w % 65536;
+    } else if (t == 1) {
+        damage_insn(insn, 1);
+    } else {
+        make_op(insn, t == 2 ? LOAD : STORE);
+        insn[F_MOD] = refused_mods[w % 4];
     }
 }
 
@@ -315,12 +337,16 @@ static void put_image(const struct image *i)
 
 /* Runs */
 
+/* Few are long: an instruction more than there once could be, and as many as there can be. */
 static uint32_t run_count(void)
 {
     uint32_t t = below(64);
     if (t < 2) return t;
-    if (t == 2) return 1024;
-    if (t == 3) return below(1025);
+    if (t == 2) {
+        uint32_t v = below(8);
+        return v == 0 ? MOST : v < 4 ? OLD_MOST + 1 : OLD_MOST;
+    }
+    if (t == 3) return below(OLD_MOST + 1);
     return 1 + below(t < 24 ? 8 : 40);
 }
 
@@ -383,11 +409,30 @@ static void make_run(void)
 /* As many ties as there can be: a register with itself, in every lane and instruction. */
 static void make_all_tied(struct run *r)
 {
-    r->list.given = 1, r->list.len = 6 * MAX_INSNS;
+    r->list.given = 1, r->list.len = 6 * MOST;
     make_op(r->list.word, SWAP);
     r->list.word[F_VC] = r->list.word[F_VD] = below(12);
     r->list.word[F_MOD] = 1 + below(15);
     change(&r->image, SLOT_USE, all_lanes, 0);
+}
+
+/* The longest list, given whole and mostly refused for its last instruction. It takes many bytes, so of 4,000 cases one has it, and none that is stored. */
+static bool is_late(uint32_t k, uint32_t turn) { return k % 4000 == turn; }
+
+static void make_late_list(struct list *l)
+{
+    make_list(l, MOST, MOST);
+    damage_one(l->word + 6 * (MOST - 1));
+}
+
+static void make_late_run(void)
+{
+    static struct run r;
+    r.image_len = IMAGE_WORDS, r.dst_len = DST_CELLS;
+    make_settings(r.settings);
+    make_late_list(&r.list);
+    make_image(&r.image);
+    put_run(&r);
 }
 
 /* Runs that meet ties. Some are refused for their last instruction, so that there is something to count before it. */
@@ -480,7 +525,7 @@ static void make_lane(uint32_t k)
 
 static size_t bytes_needed(const struct list *l)
 {
-    size_t needed = 104;
+    size_t needed = 114;
     for (size_t i = 0; i < l->len / 6; i++) {
         uint32_t op = l->given > 0 ? l->word[6 * (i % l->given)] : 0;
         needed += 39 + (ind_op_known(op) ? strlen(ind_names[op]) : 3);
@@ -497,14 +542,23 @@ static void put_writing(const uint32_t settings[8], const struct list *l, size_t
     put((uint32_t)room);
 }
 
-static void make_writing(void)
+static uint32_t writing_count(void)
 {
-    uint32_t settings[8], t = below(32), r, v;
+    static const uint32_t long_ones[4] = { OLD_MOST, OLD_MOST + 1, MOST, MOST };
+    uint32_t t = below(32), v = below(4);
+    return t < 2 ? long_ones[v] : t == 2 ? 0 : 1 + below(20);
+}
+
+static void make_writing(uint32_t k)
+{
+    uint32_t settings[8], count = writing_count(), r, v;
     static struct list list;
     make_settings(settings);
     uint32_t most = 1 + below(6);
-    make_list(&list, t == 0 ? 1024 : t == 1 ? 0 : 1 + below(20), most);
-    if (below(2) == 0) {
+    make_list(&list, count, most);
+    if (is_late(k, 3997)) {
+        make_late_list(&list);
+    } else if (below(2) == 0) {
         uint32_t kind = below(8);
         if (kind < 2) damage_setting(settings);
         else if (kind == 2) damage_length(&list);
@@ -516,20 +570,40 @@ static void make_writing(void)
     put_writing(settings, &list, r < 2 ? needed - 1 : r < 4 ? needed : r == 4 ? v : needed + v);
 }
 
-/* Readings: a text is written and so kept, and each reading is of that text with damage. */
+/* Readings: a text is written and so kept, and each reading is of that text with damage, or of the old listing of the same list. */
+
+/* What a listing has before the nine lines of document 01, and its count's digits and limit: an old one, and format 2. */
+struct form {
+    uint32_t before, digits, limit;
+};
+static const struct form old_form = { 0, 4, OLD_MOST }, new_form = { 1, 5, MOST };
 
 struct text {
     uint8_t byte[ROOM_TEXT];
     size_t len, count;              /* count: instructions that it had before any damage */
+    const struct form *form;        /* before any damage too */
 };
 
 static struct text base;
 
-static void make_base(void)
+/* Few groups are long: of the two limits, and one more than the old one. */
+static uint32_t base_count(uint32_t group)
 {
-    uint32_t settings[8], outcome[5], t = below(24);
+    uint32_t t = below(24), v = below(2 * OLD_MOST);
+    switch (group % 32) {
+    case 5:  return MOST;
+    case 13: return OLD_MOST;
+    case 21: return OLD_MOST + 1;
+    }
+    return t == 0 ? v : t < 4 ? 0 : 1 + below(6);
+}
+
+static void make_base(uint32_t group)
+{
+    uint32_t settings[8], outcome[5];
     static struct list list;
-    base.count = t == 0 ? 1024 : t < 4 ? 0 : 1 + below(6);
+    base.count = base_count(group);
+    base.form = &new_form;
     make_settings(settings);
     make_list(&list, (uint32_t)base.count, base.count > 6 ? 1 : 6);
     for (size_t i = 6 * list.given; i < list.len; i++) list.word[i] = list.word[i - 6 * list.given];
@@ -559,16 +633,78 @@ static void splice(struct text *t, size_t a, size_t b, const void *piece, size_t
     t->len = t->len - (b - a) + len;
 }
 
+static uint32_t lines_of(const struct text *t)
+{
+    uint32_t lines = 0;
+    for (size_t i = 0; i < t->len; i++) lines += t->byte[i] == 10;
+    return lines;
+}
+
+/* Where count's digits begin, if they are where they should be, else 0. */
+static size_t find_count(const struct text *t)
+{
+    uint32_t m = t->form->before + 8;
+    if (lines_of(t) <= m) return 0;
+    size_t a = find_line(t, m);
+    return line_end(t, a) - a == 7 + t->form->digits ? a + 6 : 0;
+}
+
+static void put_count(struct text *t, uint32_t count)
+{
+    size_t a = find_count(t);
+    for (size_t i = t->form->digits; a != 0 && i-- > 0; count /= 10) t->byte[a + i] = (uint8_t)(48 + count % 10);
+}
+
+/* The same list in an old listing, with the lower digits of its count. */
+static void make_old(struct text *t)
+{
+    size_t a = find_count(t);
+    splice(t, a, a + 1, "", 0);
+    splice(t, 0, line_end(t, 0), "", 0);
+    t->form = &old_form;
+}
+
+static void damage_count(struct text *t)
+{
+    uint32_t v = below(6), w = below(10000), count = (uint32_t)t->count;
+    put_count(t, v == 0 ? count + 1 : v == 1 ? count + 99999 : v == 2 ? t->form->limit + 1 : v == 3 ? t->form->limit : v == 4 ? w * 10 : w);
+}
+
+/* One that is there already, once more at the end, and count with it. */
+static void add_insn(struct text *t, uint32_t lines)
+{
+    uint8_t copy[256];
+    size_t a = find_line(t, lines - 1), len = line_end(t, a) - a;
+    memcpy(copy, t->byte + a, len);
+    splice(t, a + len, a + len, copy, len);
+    put_count(t, (uint32_t)++t->count);
+}
+
+/* Another first line, or one more; format=2 alone; or a digit too many in an old listing's count, or too few in another's. */
+static void damage_form(struct text *t)
+{
+    const bool old = t->form == &old_form;
+    uint32_t v = below(24);
+    if (v < 16) {
+        splice(t, 0, old ? 0 : line_end(t, 0), first_lines[v], strlen(first_lines[v]));
+    } else if (v < 19) {
+        splice(t, 0, t->len, "format=2\n", v == 16 ? 8 : 9);
+    } else {
+        size_t a = find_count(t);
+        if (a != 0) splice(t, a, old ? a : a + 1, "0", old ? 1 : 0);
+    }
+}
+
 /* Whether more damage may follow: what is padded with LFs stays so, since they come by the text's length. */
 static bool damage_text(struct text *t)
 {
-    uint32_t kind = below(20), lines = 0, v, w;
-    for (size_t i = 0; i < t->len; i++) lines += t->byte[i] == 10;
+    const uint32_t kind = below(24), lines = lines_of(t), head = 9 + t->form->before;
+    uint32_t v, w;
     if (lines == 0) return true;
 
-    uint32_t h = below(2), m = h == 0 ? below(lines < 9 ? lines : 9) : below(lines);
+    uint32_t h = below(2), m = h == 0 ? below(lines < head ? lines : head) : below(lines);
     size_t a = find_line(t, m), b = line_end(t, a), p = a + below((uint32_t)(b - a));
-    uint8_t copy[128], copy2[128];
+    uint8_t copy[256], copy2[256];
     memcpy(copy, t->byte + a, b - a);
 
     switch (kind) {
@@ -584,19 +720,12 @@ static bool damage_text(struct text *t)
         while (p < t->len && (t->byte[p] < 48 || t->byte[p] > 57)) p++;
         if (p < t->len) t->byte[p] = (uint8_t)(v == 11 ? 47 : 48 + v);
         break;
-    case 10: case 11:
-        v = below(4), w = below(10000);
-        w = v == 0 ? (uint32_t)t->count + 1 : v == 1 ? (t->count > 0 ? (uint32_t)t->count - 1 : 9999) : v == 2 ? 1025 : w;
-        if (lines < 9) break;
-        a = find_line(t, 8);
-        if (line_end(t, a) - a != 11) break;
-        for (size_t i = 9; i >= 6; i--, w /= 10) t->byte[a + i] = (uint8_t)(48 + w % 10);
-        break;
+    case 10: case 11: damage_count(t); break;
     case 12: case 13: {
         v = 1 + below(OPS - 1 + 6);
-        if (lines <= 9) break;
+        if (lines <= head) break;
         const char *name = v < OPS ? ind_names[v] : odd_names[v - OPS];
-        a = find_line(t, 9 + below(lines - 9));
+        a = find_line(t, head + below(lines - head));
         if (line_end(t, a) - a < 4 || memcmp(t->byte + a, "op=", 3) != 0) break;
         for (b = a + 3; t->byte[b] != 32 && t->byte[b] != 10;) b++;
         splice(t, a + 3, b, name, strlen(name));
@@ -618,17 +747,22 @@ static bool damage_text(struct text *t)
     }
     case 15: splice(t, b, b, copy, b - a); break;
     case 16: splice(t, a, b, "", 0); break;
-    case 17:
-        v = below(4), w = below(32);
-        w = v == 0 ? 65536 : v == 1 ? 65537 : 65537 + w;
+    case 17: {
+        static const uint32_t lengths[6] = { 1048576, 1048576, 1048577, 1048577, 65536, 65537 };
+        v = below(8), w = below(32);
+        w = v < 6 ? lengths[v] : 1048577 + w;
         while (t->len < w) t->byte[t->len++] = 10;
         break;
-    default:
-        if (lines <= 9) break;
-        a = find_line(t, 9 + below(lines - 9));
+    }
+    case 18: case 19:
+        if (lines <= head) break;
+        a = find_line(t, head + below(lines - head));
         v = refused_mods[below(4)];
         snprintf((char *)copy, sizeof copy, "op=%s imm=00000 vb=00 vc=00 vd=00 mod=%02" PRIu32 "\n", ind_names[load_or_store()], v);
         splice(t, a, line_end(t, a), copy, strlen((char *)copy));
+        break;
+    case 20: add_insn(t, lines); break;
+    default: damage_form(t);
     }
     return kind != 17;
 }
@@ -715,12 +849,14 @@ static void remember(const struct text *t)
 static void make_reading(void)
 {
     static struct text t;
-    t = base;
-    size_t words = 6 * t.count;
-    uint32_t n = below(8), r, v;
+    memcpy(t.byte, base.byte, base.len);
+    t.len = base.len, t.count = base.count, t.form = base.form;
+    uint32_t n = below(8), old = below(3), r, v;
+    if (old == 0) make_old(&t);
     for (n = n < 2 ? 0 : n < 5 ? 1 : 2; n > 0 && damage_text(&t); n--) continue;
     remember(&t);
-    r = below(16), v = below(16);
+    r = below(t.count > OLD_MOST ? 4 : 16), v = below(16);
+    size_t words = 6 * t.count;
     put(READING_CASE);
     put_text(&t);
     put((uint32_t)(r == 2 ? v : r == 0 && words > 0 ? words - 1 : r == 1 ? words : words + v));
@@ -819,7 +955,7 @@ static void break_length(struct walk *w)
     if (t == 0) image_len = v == 0 ? 767 : v == 1 ? 769 : 4294967295u;
     else if (t == 1) dst_len = v == 0 ? 16383 : v == 1 ? 16385 : 4294967295u;
     else if (t == 2) list_len = v < 2 ? list_len + e : 4294967295u;
-    else list_len = 6150;
+    else list_len = 6 * (MOST + 1);
     call(CHANGE_LENGTHS, image_len, dst_len, list_len, w->store_len);
     refused_step();
     lend_in_order(w);
@@ -879,8 +1015,8 @@ static void lend_other_store(struct walk *w)
 static void lend_other_list(struct walk *w)
 {
     uint32_t was = w->list_len, count = was / 6, t = below(4), v = below(13);
-    count = t == 0 ? count + 1 : t == 1 && w->at > 0 && w->at < 1024 ? w->at - 1 : t == 2 ? w->at % 1024 : v;
-    w->list_len = 6 * (count < MAX_INSNS ? count : MAX_INSNS);
+    count = t == 0 ? count + 1 : t == 1 && w->at > 0 && w->at < MOST ? w->at - 1 : t == 2 ? w->at % MOST : v;
+    w->list_len = 6 * (count < MOST ? count : MOST);
     lend_in_order(w);
     step(w, either());
     if (t != 1) return;
@@ -955,13 +1091,13 @@ static void break_all(struct walk *w)
     if (i < 8) call(CHANGE_SETTING, i, out_of(i < 2 ? 3 : 1024, v, d), 0, 0);
     else call(CHANGE_WALK, w->at, out_of(1024, v, d), 0, 0);
     for (int right = 0; right < 3; right++) {
-        call(CHANGE_LENGTHS, right < 1 ? 767 : IMAGE_WORDS, right < 2 ? 16383 : DST_CELLS, 6151, w->store_len);
+        call(CHANGE_LENGTHS, right < 1 ? 767 : IMAGE_WORDS, right < 2 ? 16383 : DST_CELLS, 6 * (MOST + 1) + 1, w->store_len);
         call(kind, 0, 0, 0, 0);
     }
     if (i < 8) call(CHANGE_SETTING, i, w->settings[i], 0, 0);
     else call(CHANGE_WALK, w->at, cursor, 0, 0);
     call(kind, 0, 0, 0, 0);
-    call(CHANGE_LENGTHS, IMAGE_WORDS, DST_CELLS, 6150, w->store_len);
+    call(CHANGE_LENGTHS, IMAGE_WORDS, DST_CELLS, 6 * (MOST + 1), w->store_len);
     call(kind, 0, 0, 0, 0);
     lend_in_order(w);
     call(kind, 0, 0, 0, 0);
@@ -1034,20 +1170,6 @@ static void make_store_list(struct list *l, uint32_t count, uint32_t most)
     }
 }
 
-/* By each of 7, 8 and 9 alike, and often a STORE. */
-static void damage_one(uint32_t *insn)
-{
-    uint32_t t = below(4), w = word();
-    if (t == 0) {
-        insn[F_OP] = OPS + w % 65536;
-    } else if (t == 1) {
-        damage_insn(insn, 1);
-    } else {
-        make_op(insn, t == 2 ? LOAD : STORE);
-        insn[F_MOD] = refused_mods[w % 4];
-    }
-}
-
 /* Columns exchanged in some lanes, of row 0 or not, and lanes not enabled. */
 static void make_walk_image(struct image *i)
 {
@@ -1063,11 +1185,12 @@ static void make_walk_image(struct image *i)
     }
 }
 
-static uint32_t walk_count(void)
+static uint32_t walk_count(uint32_t k)
 {
     uint32_t t = below(32);
+    if (k % 32 == 9) return MOST;
     if (t == 0) return 0;
-    if (t == 1) return 41 + below(984);
+    if (t == 1) return 41 + below(2 * OLD_MOST);
     return 1 + below(t < 8 ? 3 : 10);
 }
 
@@ -1136,10 +1259,11 @@ static void make_walk(uint32_t k)
 {
     static struct walk w;
     const bool full = k % 64 == 63;         /* these fill a store of the most words */
-    uint32_t count = full ? 41 + below(3) : walk_count(), changes, first_store, t;
+    uint32_t count = full ? 41 + below(3) : walk_count(k), changes, first_store, t;
     int damaged = full ? 0 : damages();
     call_count = 0;
     make_lent(&w, count);
+    if (is_late(k, 3999)) make_late_list(&w.run.list), w.list_len = 6 * MOST;
     if (full) w.store_len = ENTRY * 40 + below(11);
     make_walk_words(&w);
     changes = w.run.image.changes, first_store = w.store_len, w.at = 0;
@@ -1170,7 +1294,8 @@ void ind_cases(uint32_t seed, uint32_t runs, uint32_t lanes, uint32_t listings, 
     for (uint32_t k = 0; k < runs; k++) {
         start(seed, k, 4);
         /* of 4 runs one is for ties */
-        if (k % 4 == 3) make_tie_run(k);
+        if (is_late(k, 3999)) make_late_run();
+        else if (k % 4 == 3) make_tie_run(k);
         else make_run();
     }
     for (uint32_t k = 0; k < lanes; k++) {
@@ -1180,10 +1305,10 @@ void ind_cases(uint32_t seed, uint32_t runs, uint32_t lanes, uint32_t listings, 
     for (uint32_t k = 0; k < listings; k++) {
         start(seed, k, 12);
         /* of 25 listings one is written, 20 are read as it is or damaged, one of these is written again, and 3 are others */
-        if (k % 25 == 0) make_base();
+        if (k % 25 == 0) make_base(k / 25);
         else if (k % 25 < 21) make_reading();
         else if (k % 25 == 21) make_again();
-        else make_writing();
+        else make_writing(k);
     }
     for (uint32_t k = 0; k < walks; k++) {
         start(seed, k, 16);

@@ -1,4 +1,4 @@
-/* What is refused: document 01, "The clerk's numbers" and "Fields", and document 02's ops. */
+/* What is refused: document 01, "The clerk's numbers" and "Fields", and document 02's ops and limit. */
 #include "independent.h"
 
 bool ind_settings_good(const uint32_t settings[8])

@@ -6,6 +6,7 @@
 #include <string.h>
 
 enum { WORDS = 17 };                        /* the last column: 16 and more */
+enum { LINES = 14 };                        /* lines from 1; the last column: 13 and more */
 
 struct tally {
     unsigned long answer[7][13];            /* runs, lanes, writing, reading, and of walks begin, forward, back */
@@ -21,6 +22,8 @@ struct tally {
     unsigned long ties[2][COLUMNS];         /* what runs count, by column: together, and the most that one counts */
     unsigned long untold[12];               /* refused runs that count none and else would, by answer */
     unsigned long undone[OPS][WORDS];       /* steps back, by op and mod of the instruction gone back over */
+    unsigned long read[2][13];              /* listings that are read, by format and answer */
+    unsigned long line[2][LINES];           /* refused by 10, by format and line */
 };
 
 static struct tally t;
@@ -72,6 +75,33 @@ static const char *const walk_names[WALKS] = {
     "steps back over an instruction that is refused by 7, 8 or 9", "steps back over a STORE that is refused by 8",
     "steps of walks in which the host changes nothing", "walks with steps that end at the start", "walks with steps that end at the list's end",
     "walks that turn four times or more", "walks with steps, though refused when they begin", "entries in a store, the most",
+};
+
+/* The lengths of lists, where M-105 counts. */
+enum { RUN_LONG, RUN_MOST, RUN_OVER, BEGIN_LONG, BEGIN_MOST, BEGIN_OVER, WRITE_LONG, WRITE_MOST, WRITE_OVER, WRITE_FITS, WRITE_ONE_SHORT, WRITE_SHORT, LENGTHS };
+static unsigned long lengths[LENGTHS];
+static const char *const length_names[LENGTHS] = {
+    "runs done of 1,025 to 16,383 instructions", "runs done of 16,384", "runs refused by 5 of 16,385",
+    "walks begun of 1,025 to 16,383 instructions", "walks begun of 16,384", "walks refused by 5, when they begin, of 16,385",
+    "listings written of 1,025 to 16,383 instructions", "listings written of 16,384", "writings refused by 5 of 16,385",
+    "listings written into a room just long enough", "writings refused by 11, the room short by one byte", "writings refused by 11, the room short by more",
+};
+
+/* What readings meet: in any format, in an old listing, in format 2, and as a first line. */
+enum { LONG_TEXT, TEXT_MOST, TEXT_ONE_OVER, TEXT_OVER, ROOM_FITS, ROOM_ONE_SHORT, ROOM_SHORT, MANY_ONE_SHORT, GOES_ON, ENDS_EARLY, LATE_LINE, LATE_PLACE,
+       OLD_STORE, OLD_MOST, OLD_ONE_OVER, OLD_OVER, OLD_FIVE, NEW_LONG, NEW_MOST, NEW_ONE_OVER, NEW_OVER, NEW_FOUR,
+       FORMAT_1, FORMAT_3, FORMAT_CR, FORMAT_NO_LF, FORMAT_SPACE, FORMAT_TWICE, FORMAT_ALONE, READINGS };
+static unsigned long readings[READINGS];
+static const char *const reading_names[READINGS] = {
+    "texts over 65,536 bytes that are read", "texts of 1,048,576 bytes", "texts of 1,048,577 bytes", "texts of more bytes",
+    "rooms just long enough", "rooms short by one word", "rooms short by more", "rooms short by one word, for 16,384 instructions",
+    "refused by 10 as the text goes on after the last instruction", "refused by 10 as the text ends before an instruction's line", "refused by 10 for a line past 9,999", "refused by 8 or 9 at a place past 9,999",
+    "old listings with a STORE that are read", "old listings of 1,024 instructions that are read", "old listings refused by 5 with a count of 1,025",
+    "old listings refused by 5 with a greater count", "old listings refused by 10 for five digits of count",
+    "format 2 of 1,025 to 16,383 instructions that is read", "format 2 of 16,384 instructions that is read", "format 2 refused by 5 with a count of 16,385",
+    "format 2 refused by 5 with a greater count", "format 2 refused by 10 for four digits of count",
+    "first line format=1", "first line format=3", "first line format=2 and CR", "first line that goes on right after format=2, or ends there without LF",
+    "first line format=2 with a space", "format=2 twice", "format=2 and LF, and nothing else",
 };
 
 /* A lane's words, out of those of so many lanes, which stand slot by slot. */
@@ -223,18 +253,27 @@ static void count_counts(const uint32_t *counts)
     ties[RUNS_ONE] += columns_with(counts) == 1;
 }
 
+/* What a run changes, in a copy, so that its case can be run again. */
+static uint32_t image[ROOM_IMAGE];
+static uint16_t dst[ROOM_DST];
+
+static void copy_lent(const struct run_case *c)
+{
+    memcpy(image, c->image, sizeof image);
+    memcpy(dst, c->dst, sizeof dst);
+}
+
 /* Whether a refused run would count any, if what it is refused for were put right, or left off with all that comes after it. */
 static bool would_count(const struct run_case *c)
 {
     static const uint32_t plain[8] = { 1, 1, 0, 0, 0, 0, 0, 0 };
-    static struct run_case r;
     uint32_t o[12], place;
-    r = *c;
+    copy_lent(c);
     for (unsigned i = 0; i < IMAGE_WORDS; i++)
-        if (!ind_slot_good(i / LANES, r.image[i])) r.image[i] = 0;
-    size_t count = r.list_len / 6 < MAX_INSNS ? r.list_len / 6 : MAX_INSNS;
-    if (ind_list_fault(r.list, count, &place) != 0) count = place;
-    ind_run(plain, r.image, IMAGE_WORDS, r.dst, DST_CELLS, r.list, 6 * count, o);
+        if (!ind_slot_good(i / LANES, image[i])) image[i] = 0;
+    size_t count = c->list_len / 6 < MAX_INSNS ? c->list_len / 6 : MAX_INSNS;
+    if (ind_list_fault(c->list, count, &place) != 0) count = place;
+    ind_run(plain, image, IMAGE_WORDS, dst, DST_CELLS, c->list, 6 * count, o);
     return columns_with(o + O_TIES) > 0;
 }
 
@@ -264,30 +303,40 @@ static void count_answer(int where, uint32_t answer, const uint32_t *insn)
     if (answer >= 7 && answer <= 9 && insn != NULL) count_refused(insn);
 }
 
+/* A list that was done or refused: one that is long, the longest, or one longer. */
+static void count_length(int first, uint32_t answer, size_t list_len)
+{
+    const size_t count = list_len / 6;
+    lengths[first] += answer == 0 && count > 1024 && count < 16384;
+    lengths[first + 1] += answer == 0 && count == 16384;
+    lengths[first + 2] += answer == 5 && count == 16385;
+}
+
 /* A run is done an instruction at a time, so that the image before each can be looked at. */
 static void count_run(const struct run_case *c)
 {
-    static struct run_case r;
     static uint32_t before[IMAGE_WORDS];
-    uint32_t o[12], last = 0;
-    r = *c;
-    ind_run(r.settings, r.image, r.image_len, r.dst, r.dst_len, r.list, r.list_len, o);
-    count_answer(0, o[O_ANSWER], r.list + 6 * o[O_PLACE]);
-    for (size_t i = 0; i < o[O_PLACE]; i++) stores[REFUSED_LATER] += r.list[6 * i] == STORE;
+    uint32_t settings[8], o[12], last = 0;
+    copy_lent(c);
+    ind_run(c->settings, image, c->image_len, dst, c->dst_len, c->list, c->list_len, o);
+    count_answer(0, o[O_ANSWER], c->list + 6 * o[O_PLACE]);
+    count_length(RUN_LONG, o[O_ANSWER], c->list_len);
+    for (size_t i = 0; i < o[O_PLACE]; i++) stores[REFUSED_LATER] += c->list[6 * i] == STORE;
     if (o[O_ANSWER] != 0) {
         t.untold[o[O_ANSWER]] += would_count(c);
         return;
     }
     count_counts(o + O_TIES);
-    r = *c;
-    for (size_t i = 0; i < r.list_len; i += 6) {
-        const uint32_t *insn = r.list + i, addr = address(r.settings, insn);
-        if (i > 0 && addr == last) count_pair(insn - 6, insn, r.image);
-        count_done(r.settings, insn, r.image, 0, LANES, r.image + LANES * SLOT_CONFIG);
-        memcpy(before, r.image, sizeof before);
-        ind_run(r.settings, r.image, r.image_len, r.dst, r.dst_len, insn, 6, o);
-        count_equal(insn, before, r.image);
-        r.settings[S_CURSOR] = o[O_CURSOR];
+    copy_lent(c);
+    memcpy(settings, c->settings, sizeof settings);
+    for (size_t i = 0; i < c->list_len; i += 6) {
+        const uint32_t *insn = c->list + i, addr = address(settings, insn);
+        if (i > 0 && addr == last) count_pair(insn - 6, insn, image);
+        count_done(settings, insn, image, 0, LANES, image + LANES * SLOT_CONFIG);
+        memcpy(before, image, sizeof before);
+        ind_run(settings, image, c->image_len, dst, c->dst_len, insn, 6, o);
+        count_equal(insn, before, image);
+        settings[S_CURSOR] = o[O_CURSOR];
         last = addr;
     }
 }
@@ -300,16 +349,112 @@ static void count_lane(const struct lane_case *l)
     if (answer == 0) count_done(l->settings, l->insn, l->own, l->lane, 1, l->head + SLOT_CONFIG);
 }
 
+/* Written once more, with room for all, if it was refused for the room. */
 static void count_writing(const struct writing_case *w)
 {
-    count_answer(2, w->outcome[O_ANSWER], w->list + 6 * w->outcome[O_PLACE]);
+    static uint8_t room[ROOM_TEXT];
+    uint32_t answer = w->outcome[O_ANSWER], o[5];
+    count_answer(2, answer, w->list + 6 * w->outcome[O_PLACE]);
+    count_length(WRITE_LONG, answer, w->list_len);
+    lengths[WRITE_FITS] += answer == 0 && w->room == w->outcome[O_LENGTH];
+    if (answer != 11) return;
+    ind_write(w->settings, w->list, w->list_len, room, ROOM_TEXT, o);
+    lengths[w->room + 1 == o[O_LENGTH] ? WRITE_ONE_SHORT : WRITE_SHORT]++;
+}
+
+static bool begins(const uint8_t *text, size_t len, const char *bytes)
+{
+    return len >= strlen(bytes) && memcmp(text, bytes, strlen(bytes)) == 0;
+}
+
+/* The line's bytes up to its LF, or to the end of the text. The lines go from 1. */
+static size_t line_of(const struct reading_case *r, uint32_t number, const uint8_t **line)
+{
+    const uint8_t *at = r->text, *end = r->text + r->text_len, *lf;
+    for (; number > 1 && (lf = memchr(at, 10, (size_t)(end - at))) != NULL; number--) at = lf + 1;
+    if (number > 1) at = end;
+    lf = memchr(at, 10, (size_t)(end - at));
+    *line = at;
+    return (size_t)((lf != NULL ? lf : end) - at);
+}
+
+/* The digits of count in that line, if there is nothing else after its name. */
+static uint32_t count_digits(const struct reading_case *r, uint32_t number, uint32_t *count)
+{
+    const uint8_t *line;
+    size_t len = line_of(r, number, &line);
+    *count = 0;
+    if (!begins(line, len, "count=") || len > 15) return 0;
+    for (size_t i = 6; i < len; i++) {
+        if (line[i] < 48 || line[i] > 57) return 0;
+        *count = *count * 10 + (line[i] - 48u);
+    }
+    return (uint32_t)len - 6;
+}
+
+static void count_first_line(const struct reading_case *r)
+{
+    const uint8_t *line;
+    size_t len = line_of(r, 1, &line), kept = 0;
+    char word[10] = "";
+    for (size_t i = 0; i < len && kept < 9; i++)
+        if (line[i] != 32) word[kept++] = (char)line[i];
+    const bool spaces = kept < len, two = begins(line, len, "format=2");
+    readings[FORMAT_1] += !spaces && strcmp(word, "format=1") == 0;
+    readings[FORMAT_3] += !spaces && strcmp(word, "format=3") == 0;
+    readings[FORMAT_CR] += two && len == 9 && line[8] == 13;
+    readings[FORMAT_NO_LF] += two && (len == r->text_len || (len > 8 && line[8] != 13 && line[8] != 32));
+    readings[FORMAT_SPACE] += spaces && strcmp(word, "format=2") == 0;
+    readings[FORMAT_TWICE] += begins(r->text, r->text_len, "format=2\nformat=2\n");
+    readings[FORMAT_ALONE] += begins(r->text, r->text_len, "format=2\n") && r->text_len == 9;
+}
+
+/* A reading's answer, and that of the same text with room for all. */
+static void count_room(const struct reading_case *r, uint32_t answer, uint32_t whole, uint32_t length)
+{
+    readings[ROOM_FITS] += answer == 0 && r->room == length;
+    if (answer != 11 || whole != 0) return;
+    readings[r->room + 1 == length ? ROOM_ONE_SHORT : ROOM_SHORT]++;
+    readings[MANY_ONE_SHORT] += r->room + 1 == length && length == 6 * 16384;
+}
+
+/* By the format: the header's last line is 9 of an old listing, and 10 of format 2. */
+static void count_format(const struct reading_case *r, uint32_t answer, uint32_t place, const uint32_t *list, uint32_t length)
+{
+    const bool new = begins(r->text, r->text_len, "format=2\n");
+    const uint32_t last = new ? 10 : 9, limit = new ? 16384 : 1024;
+    const uint8_t *line;
+    uint32_t count, digits = count_digits(r, last, &count), store = 0;
+    t.read[new][answer]++;
+    if (answer == 10) t.line[new][place < LINES ? place : LINES - 1]++;
+    for (uint32_t i = 0; i < length; i += 6) store |= list[i] == STORE;
+    readings[OLD_STORE] += !new && store;
+    readings[new ? NEW_MOST : OLD_MOST] += answer == 0 && length == 6 * limit;
+    readings[new ? NEW_ONE_OVER : OLD_ONE_OVER] += answer == 5 && count == limit + 1;
+    readings[new ? NEW_OVER : OLD_OVER] += answer == 5 && count > limit + 1;
+    readings[new ? NEW_FOUR : OLD_FIVE] += answer == 10 && place == last && digits == (new ? 4 : 5);
+    readings[NEW_LONG] += new && answer == 0 && length > 6 * 1024 && length < 6 * 16384;
+    if (answer != 10 || place <= last) return;
+    readings[GOES_ON] += place == last + 1 + count;
+    line_of(r, place, &line);
+    readings[ENDS_EARLY] += line == r->text + r->text_len;
 }
 
 static void count_reading(const struct reading_case *r)
 {
     static uint32_t list[ROOM_LIST];
-    uint32_t settings[8], o[5];
-    count_answer(3, ind_read(r->text, r->text_len, list, r->room, settings, o), NULL);
+    uint32_t settings[8], o[5], all[5];
+    const uint32_t answer = ind_read(r->text, r->text_len, list, r->room, settings, o);
+    count_answer(3, answer, NULL);
+    count_first_line(r);
+    count_format(r, answer, o[O_PLACE], list, o[O_LENGTH]);
+    readings[LONG_TEXT] += answer == 0 && r->text_len > 65536;
+    readings[TEXT_MOST] += r->text_len == 1048576;
+    readings[TEXT_ONE_OVER] += r->text_len == 1048577;
+    readings[TEXT_OVER] += r->text_len > 1048577;
+    readings[LATE_LINE] += answer == 10 && o[O_PLACE] > 9999;
+    readings[LATE_PLACE] += answer < 10 && o[O_PLACE] > 9999;
+    count_room(r, answer, ind_read(r->text, r->text_len, list, ROOM_LIST, settings, all), all[O_LENGTH]);
 }
 
 static int why_twelve(const struct walk_case *w, uint32_t kind)
@@ -378,7 +523,6 @@ static void count_step(const struct walk_case *w, uint32_t kind, uint32_t before
 static void count_walk(const struct walk_case *c)
 {
     static struct walk_case w;
-    static uint16_t dst[ROOM_DST];
     struct run_case *r = &w.run;
     uint32_t o[4], answer, last = 0;
     unsigned long done = 0, turns = 0;
@@ -386,6 +530,7 @@ static void count_walk(const struct walk_case *c)
     w = *c;
     memcpy(kept, w.store, sizeof kept);
     count_answer(4, ind_begin(r->settings, r->image, r->image_len, r->dst_len, r->list, r->list_len, o, w.walk), NULL);
+    count_length(BEGIN_LONG, o[O_ANSWER], r->list_len);
     for (size_t i = 0; i < w.calls; i++) {
         const uint32_t kind = w.call[i].kind, before = w.walk[W_AT];
         memcpy(dst, r->dst, sizeof dst);
@@ -447,6 +592,7 @@ void ind_coverage(FILE *in, FILE *out)
 {
     static struct any_case c;
     static const char *const mods[10] = { [2] = "STORE 2", [6] = "STORE 6", [7] = "STORE 7", [9] = "STORE 9" };
+    static const char *const formats[2] = { "old", "format 2" };
     static const char *const lanes[3] = { "acting", "idle", "off" }, *const counts[2] = { "all runs", "most" }, *const untold[1] = { "runs" };
     const char *ops[OPS + 1];
     memcpy(ops, ind_names, sizeof ind_names);
@@ -479,4 +625,8 @@ void ind_coverage(FILE *in, FILE *out)
     print_lines(out, "steps refused by 12", twelve_names, twelves, TWELVES);
     print_by(out, "steps back, by mod of the instruction that they go back over (the last column: mod 16 and more)", ops, OPS, t.undone[0], WORDS, 0, WORDS);
     print_lines(out, "walks, by cells, by steps and by walks", walk_names, walks, WALKS);
+    print_lines(out, "lists by their length, and rooms that listings are written into", length_names, lengths, LENGTHS);
+    print_by(out, "readings, by format and answer", formats, 2, t.read[0], 13, 0, 12);
+    print_by(out, "readings refused by 10, by format and line (the last column: line 13 and more)", formats, 2, t.line[0], LINES, 1, LINES);
+    print_lines(out, "readings, by text, by room, by format and by first line", reading_names, readings, READINGS);
 }

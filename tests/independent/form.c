@@ -44,9 +44,13 @@ static void numbers(uint32_t *words, size_t count)
 static void make_list(uint32_t *list)
 {
     size_t given = place(ROOM_LIST);
-    memset(list, 0, ROOM_LIST * sizeof *list);
     numbers(list, given);
-    for (size_t i = given; given > 0 && i < ROOM_LIST; i++) list[i] = list[i - given];
+    if (given == 0) memset(list, 0, ROOM_LIST * sizeof *list);
+    /* They repeat: what is there so far comes again, as long as there is room. */
+    for (size_t len = given, more; len > 0 && len < ROOM_LIST; len += more) {
+        more = at_most(len, ROOM_LIST - len);
+        memcpy(list + len, list, more * sizeof *list);
+    }
 }
 
 /* By a seed */
@@ -138,21 +142,30 @@ static void make_writing(struct writing_case *w)
     w->room = place(ROOM_TEXT);
     ind_write(w->settings, w->list, w->list_len, kept, w->room, w->outcome);
     kept_len = w->outcome[O_LENGTH];
-    memcpy(w->text, kept, sizeof kept);
+    memcpy(w->text, kept, w->room);
 }
 
+/* So many bytes of the kept text from one on; where the text that is made then goes on. */
+static size_t copy_kept(struct reading_case *r, size_t from, size_t count, size_t to)
+{
+    count = at_most(at_most(count, ROOM_TEXT - from), ROOM_TEXT - to);
+    memcpy(r->text + to, kept + from, count);
+    return to + count;
+}
+
+/* Past what is made are LFs, as far as the text goes. */
 static void make_reading(struct reading_case *r)
 {
     size_t from = 0, to = 0;
-    memset(r->text, 10, sizeof r->text);
     for (uint32_t pieces = number(); pieces > 0; pieces--) {
-        for (size_t copied = place(ROOM_TEXT); copied > 0 && to < ROOM_TEXT; copied--) r->text[to++] = kept[from++];
+        to = copy_kept(r, from, place(ROOM_TEXT), to);
         from = place(ROOM_TEXT);
         for (size_t count = place(ROOM_TEXT); count > 0 && to < ROOM_TEXT; count--) r->text[to++] = (uint8_t)number();
     }
-    while (from < kept_len && to < ROOM_TEXT) r->text[to++] = kept[from++];
+    if (from < kept_len) to = copy_kept(r, from, kept_len - from, to);
     r->text_len = place(ROOM_TEXT);
     r->room = place(ROOM_LIST);
+    if (to < r->text_len) memset(r->text + to, 10, r->text_len - to);
 }
 
 static struct call next_call(void)

@@ -19,7 +19,10 @@
 #include <stdint.h>
 #include <stdio.h>
 
-enum { LANES = 32, COLUMNS = 8, SLOTS = 24, IMAGE_WORDS = 768, DST_CELLS = 16384, MAX_INSNS = 1024, TEXT_LIMIT = 65536 };
+enum { LANES = 32, COLUMNS = 8, SLOTS = 24, IMAGE_WORDS = 768, DST_CELLS = 16384 };
+
+/* M-105: what the library takes, and what the program holds. */
+enum { MAX_INSNS = 16384, TEXT_LIMIT = 1048576, PROGRAM_INSNS = 1024, PROGRAM_TEXT = 65536 };
 
 /* OPS is the first number past them that is no op. */
 enum { LOAD = 1, LOADI, LUT, SWAP, CONFIG, IADD, ABS, AND, OR, XOR, NOT, LZ, EXEXP, EXMAN, NOP, STORE, OPS };
@@ -68,15 +71,16 @@ uint32_t ind_forward(const uint32_t settings[8], uint32_t *image, size_t image_l
 uint32_t ind_back(const uint32_t settings[8], uint32_t *image, size_t image_len, uint16_t *dst, size_t dst_len,
                   const uint32_t *list, size_t list_len, const uint32_t *store, size_t store_len, uint32_t walk[2]);
 
-/* listing.c */
+/* listing.c: ind_replay and ind_rewrite are the program, which answers for a listing with its report, or with the listing anew */
 extern const char *const ind_names[OPS];
 uint32_t ind_read(const uint8_t *text, size_t text_len, uint32_t *list, size_t list_len, uint32_t settings[8], uint32_t outcome[5]);
 uint32_t ind_write(const uint32_t settings[8], const uint32_t *list, size_t list_len, uint8_t *text, size_t text_len, uint32_t outcome[5]);
 void ind_replay(FILE *in, FILE *out);
+void ind_rewrite(FILE *in, FILE *out);
 
 /* form.c: the largest sizes are in tests/CASES.md. */
 enum { RUN_CASE = 1, LANE_CASE, WRITING_CASE, READING_CASE, WALK_CASE };
-enum { ROOM_IMAGE = 1024, ROOM_DST = 16400, ROOM_LIST = 6160, ROOM_TEXT = 65700, ROOM_STORE = 40 * ENTRY + 10 };
+enum { ROOM_IMAGE = 1024, ROOM_DST = 16400, ROOM_LIST = 98400, ROOM_TEXT = 1048700, ROOM_STORE = 40 * ENTRY + 10 };
 enum { FORWARD = 1, BACK, CHANGE_STORE, CHANGE_IMAGE, CHANGE_WALK, CHANGE_SETTING, CHANGE_LENGTHS, CALLS };
 
 struct run_case {
@@ -93,7 +97,7 @@ struct lane_case {
 struct writing_case {
     uint32_t settings[8], list[ROOM_LIST], outcome[5];
     size_t list_len, room;
-    uint8_t text[ROOM_TEXT];                            /* the room afterwards */
+    uint8_t text[ROOM_TEXT];                            /* the room afterwards, as far as it was lent */
 };
 
 struct reading_case {

@@ -13,6 +13,7 @@ static int usage(void)
                     "       independent show LINE                                the case that the line is of\n"
                     "       independent coverage                                 what the cases meet\n"
                     "       independent replay                                   a listing on standard input, the report on standard output\n"
+                    "       independent rewrite                                  a listing on standard input, the same in format 2, or the report of its refusal\n"
                     "       independent selftest                                 document 01's examples, and what document 02 changes\n");
     return 2;
 }
@@ -39,6 +40,7 @@ int main(int argc, char **argv)
     else if (strcmp(command, "show") == 0 && argc == 3) return ind_show(stdin, n[0], stdout) ? 0 : 1;
     else if (strcmp(command, "coverage") == 0 && argc == 2) ind_coverage(stdin, stdout);
     else if (strcmp(command, "replay") == 0 && argc == 2) ind_replay(stdin, stdout);
+    else if (strcmp(command, "rewrite") == 0 && argc == 2) ind_rewrite(stdin, stdout);
     else if (strcmp(command, "selftest") == 0 && argc == 2) return ind_selftest();
     else return usage();
     return fflush(stdout) == 0 ? 0 : 1;

@@ -363,26 +363,31 @@ static void runs(void)
     fresh();
     memset(image, 0, sizeof image);
     settings[3] = 5000;
-    nops(0, 1025);
+    nops(0, 16385);
     image[736] = 4096;
-    CHECK(ind_run(settings, image, 767, dst, 16383, list, 6145, outcome) == 1 && is(1, 0, 0, 5000));
-    CHECK(ind_run(settings, image, 768, dst, 16383, list, 6145, outcome) == 2 && is(2, 0, 0, 5000));
-    CHECK(ind_run(settings, image, 768, dst, 16384, list, 6145, outcome) == 3 && is(3, 0, 0, 5000));
+    CHECK(ind_run(settings, image, 767, dst, 16383, list, 98311, outcome) == 1 && is(1, 0, 0, 5000));
+    CHECK(ind_run(settings, image, 768, dst, 16383, list, 98311, outcome) == 2 && is(2, 0, 0, 5000));
+    CHECK(ind_run(settings, image, 768, dst, 16384, list, 98311, outcome) == 3 && is(3, 0, 0, 5000));
     settings[3] = 5;
-    CHECK(ind_run(settings, image, 768, dst, 16384, list, 6145, outcome) == 4 && is(4, 0, 0, 5));
-    CHECK(ind_run(settings, image, 768, dst, 16384, list, 6150, outcome) == 5 && is(5, 0, 0, 5));
+    CHECK(ind_run(settings, image, 768, dst, 16384, list, 98311, outcome) == 4 && is(4, 0, 0, 5));
+    CHECK(ind_run(settings, image, 768, dst, 16384, list, 98305, outcome) == 4 && is(4, 0, 0, 5));
+    CHECK(ind_run(settings, image, 768, dst, 16384, list, 98310, outcome) == 5 && is(5, 0, 0, 5));
     CHECK(ind_run(settings, image, 768, dst, 16384, list, 0, outcome) == 6 && is(6, 0, 0, 5));
     image[736] = 4095;
     CHECK(ind_run(settings, image, 768, dst, 16384, list, 0, outcome) == 0 && is(0, 0, 0, 5));
-    CHECK(ind_run(settings, image, 768, dst, 16384, list, 6144, outcome) == 0 && is(0, 1024, 0, 5));
+    CHECK(ind_run(settings, image, 768, dst, 16384, list, 6150, outcome) == 0 && is(0, 1025, 0, 5));
+    CHECK(ind_run(settings, image, 768, dst, 16384, list, 98304, outcome) == 0 && is(0, 16384, 0, 5));
+    CHECK(ind_run(settings, image, 768, dst, 16384, list, 98310, outcome) == 5 && is(5, 0, 0, 5));
+    list[6 * 16383 + F_MOD] = 1;
+    CHECK(ind_run(settings, image, 768, dst, 16384, list, 98304, outcome) == 8 && is(8, 0, 16383, 5));
     list[6 * 7 + F_MOD] = 1, list[6 * 8] = 17;
-    CHECK(ind_run(settings, image, 768, dst, 16384, list, 6144, outcome) == 8 && is(8, 0, 7, 5));
+    CHECK(ind_run(settings, image, 768, dst, 16384, list, 98304, outcome) == 8 && is(8, 0, 7, 5));
     list[6 * 7] = 99;
-    CHECK(ind_run(settings, image, 768, dst, 16384, list, 6144, outcome) == 7 && is(7, 0, 7, 5));
+    CHECK(ind_run(settings, image, 768, dst, 16384, list, 98304, outcome) == 7 && is(7, 0, 7, 5));
     list[6 * 7] = LOAD, list[6 * 7 + F_MOD] = 10;
-    CHECK(ind_run(settings, image, 768, dst, 16384, list, 6144, outcome) == 9 && is(9, 0, 7, 5));
+    CHECK(ind_run(settings, image, 768, dst, 16384, list, 98304, outcome) == 9 && is(9, 0, 7, 5));
     list[6 * 7 + F_VC] = 1;
-    CHECK(ind_run(settings, image, 768, dst, 16384, list, 6144, outcome) == 8 && is(8, 0, 7, 5));
+    CHECK(ind_run(settings, image, 768, dst, 16384, list, 98304, outcome) == 8 && is(8, 0, 7, 5));
 
     /* The cursor moves whatever vd is, and wraps; the next address uses it. */
     nops(0, 3);
@@ -633,10 +638,10 @@ static void ties_over_a_list(void)
     put_swap(0, 0, 1, 1), put_insn(1, IADD, 0, 0, 2, 1), put_swap(2, 0, 1, 1);
     CHECK(run(3) == 0 && all_are(4) && image[LANES * SLOT_FLAG + 13] == 0);
 
-    /* At most 4 an instruction: 1,024 instructions, each with every lane. */
+    /* At most 4 an instruction: 16,384 instructions, each with every lane. */
     alike(5, 0);
     for (size_t i = 0; i < MAX_INSNS; i++) put_swap(i, 0, 1, 1 + i % 15);
-    CHECK(run(MAX_INSNS) == 0 && is(0, 1024, 0, 0) && all_are(4096));
+    CHECK(run(MAX_INSNS) == 0 && is(0, 16384, 0, 0) && all_are(65536));
 }
 
 static bool refused(uint32_t answer, uint32_t place) { return is(answer, 0, place, settings[S_CURSOR]) && all_are(0); }
@@ -655,7 +660,7 @@ static void ties_refused(void)
     CHECK(run(3) == 8 && refused(8, 2));
     put_insn(2, LOAD, 0, 0, 0, 3);
     CHECK(run(3) == 9 && refused(9, 2));
-    CHECK(run(1025) == 5 && refused(5, 0));
+    CHECK(run(16385) == 5 && refused(5, 0));
     image[LANES * SLOT_MISC + 31] = 4096;
     CHECK(run(2) == 6 && refused(6, 0));
     image[LANES * SLOT_MISC + 31] = 0;
@@ -735,12 +740,14 @@ static void beginnings(void)
 {
     lend();
     settings[S_CURSOR] = 1023;
-    nops(0, 1025);
+    nops(0, 16385);
     look();
-    CHECK(begin(1024) == 0 && is(0, 0, 0, 1023) && walk_is(0, 1023));
+    CHECK(begin(16384) == 0 && is(0, 0, 0, 1023) && walk_is(0, 1023));
     CHECK(begin(0) == 0 && is(0, 0, 0, 1023) && same_image() && same_dst());
     walk[0] = 77, walk[1] = 7777;
-    CHECK(begin(1025) == 5 && is(5, 0, 0, 1023) && same());
+    CHECK(begin(16385) == 5 && is(5, 0, 0, 1023) && same());
+    list[6 * 16383 + F_MOD] = 1;
+    CHECK(begin(16384) == 8 && is(8, 0, 16383, 1023) && same());
     list[6 * 7 + F_MOD] = 1;
     CHECK(begin(8) == 8 && is(8, 0, 7, 1023) && same());
     list[6 * 7] = 17;
@@ -753,12 +760,12 @@ static void beginnings(void)
     lend();
     settings[S_CURSOR] = 1024, image[736] = 4096;
     look();
-    CHECK(ind_begin(settings, image, 769, 0, list, 6151, outcome, walk) == 1 && is(1, 0, 0, 1024) && same());
-    CHECK(ind_begin(settings, image, 768, 0, list, 6151, outcome, walk) == 2 && is(2, 0, 0, 1024) && same());
-    CHECK(ind_begin(settings, image, 768, 16384, list, 6151, outcome, walk) == 3 && is(3, 0, 0, 1024) && same());
+    CHECK(ind_begin(settings, image, 769, 0, list, 98311, outcome, walk) == 1 && is(1, 0, 0, 1024) && same());
+    CHECK(ind_begin(settings, image, 768, 0, list, 98311, outcome, walk) == 2 && is(2, 0, 0, 1024) && same());
+    CHECK(ind_begin(settings, image, 768, 16384, list, 98311, outcome, walk) == 3 && is(3, 0, 0, 1024) && same());
     settings[S_CURSOR] = 3;
-    CHECK(ind_begin(settings, image, 768, 16384, list, 6151, outcome, walk) == 4 && is(4, 0, 0, 3) && same());
-    CHECK(begin(1025) == 5 && is(5, 0, 0, 3) && same());
+    CHECK(ind_begin(settings, image, 768, 16384, list, 98311, outcome, walk) == 4 && is(4, 0, 0, 3) && same());
+    CHECK(begin(16385) == 5 && is(5, 0, 0, 3) && same());
     CHECK(begin(8) == 6 && is(6, 0, 0, 3) && same());
 }
 
@@ -836,16 +843,16 @@ static void refused_steps(void)
     /* 1, 2, ... in turn, while all that comes after is wrong too. The walk's cursor is a 3, and the settings' own. */
     lend();
     settings[S_STRIDE0] = 1024, image[LANES * SLOT_FLAG] = 2;
-    CHECK(both_refused(1, 767, 0, 6151, 0) && both_refused(1, 0, 0, 6151, 0) && both_refused(2, 768, 16385, 6151, 0));
-    CHECK(both_refused(3, 768, 16384, 6151, 0));
+    CHECK(both_refused(1, 767, 0, 98311, 0) && both_refused(1, 0, 0, 98311, 0) && both_refused(2, 768, 16385, 98311, 0));
+    CHECK(both_refused(3, 768, 16384, 98311, 0));
     settings[S_STRIDE0] = 0;
-    CHECK(both_refused(3, 768, 16384, 6151, 0));
+    CHECK(both_refused(3, 768, 16384, 98311, 0));
     settings[S_CURSOR] = 1024, walk[1] = 1023;
-    CHECK(both_refused(3, 768, 16384, 6151, 0));
+    CHECK(both_refused(3, 768, 16384, 98311, 0));
     settings[S_CURSOR] = 0;
-    CHECK(both_refused(4, 768, 16384, 6151, 0) && both_refused(5, 768, 16384, 6150, 0) && both_refused(6, 768, 16384, 6144, 0));
+    CHECK(both_refused(4, 768, 16384, 98311, 0) && both_refused(5, 768, 16384, 98310, 0) && both_refused(6, 768, 16384, 98304, 0));
     image[LANES * SLOT_FLAG] = 1;
-    CHECK(both_refused(12, 768, 16384, 6144, 0));
+    CHECK(both_refused(12, 768, 16384, 98304, 0));
     walk[1] = 1024;
     CHECK(both_refused(3, 768, 16384, 0, 0));
 
@@ -939,13 +946,16 @@ static void walks_as_runs(void)
     CHECK(most == COUNT);
 }
 
-/* Listings */
+/* Listings: document 01's example, an old listing, and the same list as it is written now (M-105) */
 
 static const char worked[] =
     "edition=1\nsrcb=2\noffset=0000\ncursor=0000\nstride0=0000\nstride1=0000\nstride2=0000\nstride3=0000\ncount=0001\n"
     "op=CONFIG imm=00001 vb=00 vc=00 vd=12 mod=09\n";
+static const char rewritten[] =
+    "format=2\nedition=1\nsrcb=2\noffset=0000\ncursor=0000\nstride0=0000\nstride1=0000\nstride2=0000\nstride3=0000\ncount=00001\n"
+    "op=CONFIG imm=00001 vb=00 vc=00 vd=12 mod=09\n";
 static const char worked_report[] =
-    "answer=0\nsteps=0001\nplace=0000\ncursor=0000\n"
+    "answer=0\nsteps=00001\nplace=00000\ncursor=0000\n"
     "reg=12 lane=00 word=37800000\nreg=12 lane=08 word=37800000\nreg=12 lane=16 word=37800000\nreg=12 lane=24 word=37800000\n";
 
 static char text[ROOM_TEXT];
@@ -964,6 +974,19 @@ static void change(const char *from, const char *to)
     text_len = strlen(text);
 }
 
+static bool all_words(size_t from, size_t to, uint32_t word)
+{
+    while (from < to && list[from] == word) from++;
+    return from == to;
+}
+
+static bool all_nops(size_t count)
+{
+    size_t i = 0;
+    while (i < 6 * count && list[i] == (i % 6 == 0 ? NOP : 0)) i++;
+    return i == 6 * count;
+}
+
 /* Reads the text into a room of the given size; on a refusal room and settings must be as document 01 says. */
 static uint32_t read_into(size_t room)
 {
@@ -971,7 +994,7 @@ static uint32_t read_into(size_t room)
     memset(outcome, 0xA5, sizeof outcome);
     uint32_t answer = ind_read((const uint8_t *)text, text_len, list, room, settings, outcome);
     CHECK(outcome[O_LENGTH + 1] == 0xA5A5A5A5);
-    for (size_t i = outcome[O_LENGTH]; i < ROOM_LIST; i++) CHECK(list[i] == 77);
+    CHECK(all_words(outcome[O_LENGTH], ROOM_LIST, 77));
     CHECK(answer == outcome[O_ANSWER] && settings[S_CURSOR] == outcome[O_CURSOR]);
     if (answer != 0) {
         CHECK(outcome[O_LENGTH] == 0);
@@ -982,40 +1005,42 @@ static uint32_t read_into(size_t room)
 
 static bool reads(uint32_t answer, uint32_t place, uint32_t cursor) { return read_into(6) == answer && is(answer, 0, place, cursor); }
 
-static void report(const char *expected)
+/* What the program prints for the text. */
+static const char *printed(void by(FILE *in, FILE *out))
 {
-    char got[4096];
+    static char got[ROOM_TEXT];
     FILE *in = tmpfile(), *out = tmpfile();
-    if (in == NULL || out == NULL) {
-        CHECK(!"a temporary file");
-        return;
-    }
+    if (in == NULL || out == NULL) return "no temporary file";
     fwrite(text, 1, text_len, in);
     rewind(in);
-    ind_replay(in, out);
+    by(in, out);
     rewind(out);
     got[fread(got, 1, sizeof got - 1, out)] = 0;
-    CHECK(strcmp(got, expected) == 0);
     fclose(in);
     fclose(out);
+    return got;
 }
+
+static bool report(const char *expected) { return strcmp(printed(ind_replay), expected) == 0; }
+
+static bool rewrites(const char *expected) { return strcmp(printed(ind_rewrite), expected) == 0; }
 
 static void listings(void)
 {
     uint8_t room[200];
 
     say(worked);
-    report(worked_report);
+    CHECK(report(worked_report));
     CHECK(reads(0, 0, 0) && outcome[O_LENGTH] == 6 && settings[0] == 1 && settings[1] == 2);
     CHECK(read_into(5) == 11 && is(11, 0, 0, 0));
     CHECK(read_into(6) == 0);
 
-    /* Written again it is the same text; a room one byte short is left alone. */
+    /* Written it is the same list in format 2; a room one byte short is left alone. */
     memset(room, 9, sizeof room);
-    CHECK(ind_write(settings, list, 6, room, sizeof worked - 2, outcome) == 11 && is(11, 0, 0, 0) && outcome[O_LENGTH] == 0 && room[0] == 9);
+    CHECK(ind_write(settings, list, 6, room, sizeof rewritten - 2, outcome) == 11 && is(11, 0, 0, 0) && outcome[O_LENGTH] == 0 && room[0] == 9);
     memset(outcome, 0xA5, sizeof outcome);
-    CHECK(ind_write(settings, list, 6, room, sizeof worked - 1, outcome) == 0 && outcome[O_LENGTH] == sizeof worked - 1 && outcome[O_LENGTH + 1] == 0xA5A5A5A5);
-    CHECK(memcmp(room, worked, sizeof worked - 1) == 0 && room[sizeof worked - 1] == 9);
+    CHECK(ind_write(settings, list, 6, room, sizeof rewritten - 1, outcome) == 0 && outcome[O_LENGTH] == sizeof rewritten - 1 && outcome[O_LENGTH + 1] == 0xA5A5A5A5);
+    CHECK(memcmp(room, rewritten, sizeof rewritten - 1) == 0 && room[sizeof rewritten - 1] == 9);
     settings[S_CURSOR] = 7;
     CHECK(ind_write(settings, list, 5, room, 0, outcome) == 4 && is(4, 0, 0, 7));
     list[F_MOD] = 16;
@@ -1026,9 +1051,9 @@ static void listings(void)
     /* STORE, from Dst to a register and back; each report begins from zeros. */
     say(worked), change("CONFIG imm=00001 vb=00 vc=00 vd=12 mod=09", "STORE imm=00004 vb=00 vc=00 vd=10 mod=07");
     CHECK(reads(0, 0, 0) && list[F_OP] == STORE && list[F_VD] == 10);
-    report("answer=0\nsteps=0001\nplace=0000\ncursor=0000\n");
+    CHECK(report("answer=0\nsteps=00001\nplace=00000\ncursor=0000\n"));
     change("STORE", "LOAD"), change("vd=10", "vd=01");
-    report("answer=0\nsteps=0001\nplace=0000\ncursor=0000\n");
+    CHECK(report("answer=0\nsteps=00001\nplace=00000\ncursor=0000\n"));
     change("LOAD", "STORE"), change("mod=07", "mod=03");
     CHECK(read_into(0) == 8 && is(8, 0, 0, 0));
     change("STORE", "STORES");
@@ -1037,7 +1062,7 @@ static void listings(void)
     /* The first line not in form. */
     say("");
     CHECK(reads(10, 1, 0));
-    report("answer=10\nsteps=0000\nplace=0001\ncursor=0000\n");
+    CHECK(report("answer=10\nsteps=00000\nplace=00001\ncursor=0000\n"));
     say(worked), text_len -= 1;
     CHECK(reads(10, 10, 0));
     say(worked), text_len -= 45;
@@ -1058,7 +1083,7 @@ static void listings(void)
     CHECK(reads(10, 10, 0));
     change("OP=", "op="), change("vd=12", "vd=16");
     CHECK(reads(3, 0, 5000));
-    report("answer=3\nsteps=0000\nplace=0000\ncursor=5000\n");
+    CHECK(report("answer=3\nsteps=00000\nplace=00000\ncursor=5000\n"));
     change("edition=3", "edition=2"), change("cursor=5000", "cursor=0500");
     CHECK(read_into(0) == 8 && is(8, 0, 0, 500));
     change("CONFIG", "LOAD"), change("vd=16", "vd=15"), change("mod=09", "mod=12");
@@ -1067,15 +1092,205 @@ static void listings(void)
     CHECK(read_into(0) == 11 && is(11, 0, 0, 0));
     change("count=0001", "count=0000");
     CHECK(reads(10, 10, 0));
+}
 
-    /* The length. */
-    say(worked);
-    memset(text + text_len, 'x', sizeof text - text_len);
-    text_len = 65536;
+/* Formats and lengths (M-105) */
+
+static bool starts(const char *first_line, uint32_t answer, uint32_t place)
+{
+    say(rewritten), change("format=2\n", first_line);
+    return reads(answer, place, 0);
+}
+
+/* The first line, and each line after it by itself. */
+static void formats(void)
+{
+    say(rewritten);
+    CHECK(reads(0, 0, 0) && outcome[O_LENGTH] == 6 && settings[0] == 1 && settings[1] == 2 && list[0] == CONFIG && list[1] == 1 && list[4] == 12 && list[5] == 9);
+    CHECK(read_into(5) == 11 && is(11, 0, 0, 0));
+    CHECK(report(worked_report) && rewrites(rewritten));
+
+    CHECK(starts("format=1\n", 10, 1) && starts("format=3\n", 10, 1) && starts("format=0\n", 10, 1) && starts("format=4\n", 10, 1));
+    CHECK(starts("format=2\r\n", 10, 1) && starts("format=2", 10, 1) && starts("format=2 ", 10, 1) && starts("format=2 \n", 10, 1));
+    CHECK(starts(" format=2\n", 10, 1) && starts("format= 2\n", 10, 1) && starts("\nformat=2\n", 10, 1) && starts("\xEF\xBB\xBF" "format=2\n", 10, 1));
+    CHECK(starts("format=02\n", 10, 1) && starts("format=20\n", 10, 1) && starts("FORMAT=2\n", 10, 1) && starts("format:2\n", 10, 1) && starts("format=\n", 10, 1));
+    CHECK(starts("format=2\nformat=2\n", 10, 2) && starts("format=2\n\n", 10, 2));
+    CHECK(starts("", 10, 9));                                   /* an old listing, with five digits */
+    CHECK(starts("format=2\n", 0, 0));
+    say("format=2\n");
+    CHECK(reads(10, 2, 0) && report("answer=10\nsteps=00000\nplace=00002\ncursor=0000\n"));
+    for (text_len = 1; text_len < 9; text_len++) CHECK(reads(10, 1, 0));
+    say("format=3\n"), CHECK(reads(10, 1, 0));
+
+    /* Four digits belong to old listings, five to format 2. */
+    say(worked), change("edition", "format=2\nedition");
+    CHECK(reads(10, 10, 0));
+    change("count=0001", "count=00001");
+    CHECK(reads(0, 0, 0));
+    change("count=00001", "count=000001");
+    CHECK(reads(10, 10, 0));
+    say(worked), change("count=0001", "count=00001");
+    CHECK(reads(10, 9, 0) && rewrites("answer=10\nsteps=00000\nplace=00009\ncursor=0000\n"));
+    say(worked), change("stride0", "format=2\nstride0");
+    CHECK(reads(10, 5, 0));
+
+    /* The line is told as it stands in the text: of each from the second on the first byte, and the last before its LF, and a text that ends before it. */
+    uint32_t line = 2;
+    for (size_t at = 9; at < sizeof rewritten - 1; line++) {
+        size_t end = at + strcspn(rewritten + at, "\n");
+        say(rewritten), text[at] = '?';
+        CHECK(reads(10, line, 0));
+        say(rewritten), text[end - 1] = '?';
+        CHECK(reads(10, line, 0));
+        say(rewritten), text_len = at;
+        CHECK(reads(10, line, 0));
+        text_len = end;
+        CHECK(reads(10, line, 0));
+        at = end + 1;
+    }
+    CHECK(line == 12);
+    say(rewritten), change("mod=09\n", "mod=09\n\n");
+    CHECK(reads(10, 12, 0));
+    say(rewritten), change("count=00001", "count=00000");
     CHECK(reads(10, 11, 0));
-    text_len = 65537;
-    CHECK(reads(11, 0, 0));
-    report("answer=11\nsteps=0000\nplace=0000\ncursor=0000\n");
+    say(rewritten), change("count=00001", "count=00002");
+    CHECK(reads(10, 12, 0));
+
+    /* Count before the rest, the rest before 3, 3 before 8 and 9, those before the room. */
+    say(rewritten), change("cursor=0000", "cursor=5000"), change("count=00001", "count=16385"), change("op=", "OP=");
+    CHECK(reads(5, 0, 5000) && report("answer=5\nsteps=00000\nplace=00000\ncursor=5000\n"));
+    change("count=16385", "count=99999");
+    CHECK(reads(5, 0, 5000));
+    change("count=99999", "count=16384");
+    CHECK(reads(10, 11, 0));
+    change("count=16384", "count=00001"), change("edition=1", "edition=3");
+    CHECK(reads(10, 11, 0));
+    change("OP=", "op="), change("vd=12", "vd=16");
+    CHECK(reads(3, 0, 5000) && rewrites("answer=3\nsteps=00000\nplace=00000\ncursor=5000\n"));
+    change("edition=3", "edition=2"), change("cursor=5000", "cursor=0500");
+    CHECK(read_into(0) == 8 && is(8, 0, 0, 500));
+    change("CONFIG", "LOAD"), change("vd=16", "vd=15"), change("mod=09", "mod=12");
+    CHECK(read_into(0) == 9 && is(9, 0, 0, 500));
+    change("mod=12", "mod=11");
+    CHECK(read_into(0) == 11 && is(11, 0, 0, 0));
+}
+
+/* A listing of so many NOPs, whatever its form allows, with a cursor of 12. */
+static void say_nops(bool old, uint32_t count)
+{
+    say(old ? worked : rewritten);
+    text_len -= 45;
+    memcpy(strstr(text, "cursor=") + 7, "0012", 4);
+    text_len -= old ? 5 : 6;
+    text_len += (size_t)sprintf(text + text_len, old ? "%04" PRIu32 "\n" : "%05" PRIu32 "\n", count);
+    for (uint32_t i = 0; i < count; i++) text_len += (size_t)sprintf(text + text_len, "op=NOP imm=00000 vb=00 vc=00 vd=00 mod=00\n");
+}
+
+/* The last instruction's mod is 1, or its line is short of an LF. */
+static void break_last_mod(void) { text[text_len - 2] = '1'; }
+static void break_last_line(void) { text_len -= 1; }
+
+static void limits(void)
+{
+    static uint8_t room[ROOM_TEXT];
+    uint32_t count;
+
+    /* Old listings to 1,024, format 2 to 16,384; what is read is NOPs and nothing else, and is written in format 2. */
+    for (int old = 0; old < 2; old++) {
+        count = old ? 1024 : 16384;
+        say_nops(old, count);
+        CHECK(read_into(ROOM_LIST) == 0 && is(0, 0, 0, 12) && outcome[O_LENGTH] == 6 * count && all_nops(count));
+        CHECK(ind_write(settings, list, 6 * count, room, ROOM_TEXT, outcome) == 0 && is(0, 0, 0, 12));
+        say_nops(false, count);
+        CHECK(outcome[O_LENGTH] == text_len && memcmp(room, text, text_len) == 0);
+        say_nops(old, count);
+        CHECK(read_into(6 * count) == 0 && read_into(6 * count - 1) == 11 && is(11, 0, 0, 0));
+        break_last_mod();
+        CHECK(read_into(0) == 8 && is(8, 0, count - 1, 12));
+        break_last_line();
+        CHECK(read_into(ROOM_LIST) == 10 && is(10, 0, (old ? 9 : 10) + count, 0));
+        say_nops(old, count + 1);
+        CHECK(read_into(ROOM_LIST) == 5 && is(5, 0, 0, 12));
+        break_last_line();
+        CHECK(read_into(ROOM_LIST) == 5 && is(5, 0, 0, 12));
+    }
+    say_nops(false, 1025);
+    CHECK(read_into(ROOM_LIST) == 0 && outcome[O_LENGTH] == 6150);
+    say_nops(true, 9999);
+    CHECK(read_into(ROOM_LIST) == 5 && is(5, 0, 0, 12));
+
+    /* The longest listing, and one longer. 4 before 5, and 5 before 7 to 9. */
+    fresh();
+    for (size_t i = 0; i < 16385; i++) put_insn(i, CONFIG, 65535, 0, 15, 15);
+    CHECK(ind_write(settings, list, 98304, room, 737393, outcome) == 11 && is(11, 0, 0, 0));
+    CHECK(ind_write(settings, list, 98304, room, 737394, outcome) == 0 && outcome[O_LENGTH] == 737394 && memcmp(room + 9 + 93, "count=16384\n", 12) == 0);
+    list[0] = 99;
+    CHECK(ind_write(settings, list, 98310, room, ROOM_TEXT, outcome) == 5 && is(5, 0, 0, 0) && outcome[O_LENGTH] == 0);
+    CHECK(ind_write(settings, list, 98311, room, ROOM_TEXT, outcome) == 4 && ind_write(settings, list, 98309, room, ROOM_TEXT, outcome) == 4);
+    CHECK(ind_write(settings, list, 98304, room, ROOM_TEXT, outcome) == 7 && is(7, 0, 0, 0));
+    list[0] = CONFIG, list[6 * 16383 + F_MOD] = 16;
+    CHECK(ind_write(settings, list, 98304, room, ROOM_TEXT, outcome) == 8 && is(8, 0, 16383, 0));
+
+    /* 1,048,576 bytes are looked at, one more is not, in either format; 65,537 are no limit of the library's. */
+    for (int old = 0; old < 2; old++) {
+        say(old ? worked : rewritten);
+        memset(text + text_len, 'x', sizeof text - text_len);
+        text_len = 1048576;
+        CHECK(reads(10, old ? 11 : 12, 0));
+        text_len = 65537;
+        CHECK(reads(10, old ? 11 : 12, 0));
+        text_len = 1048577;
+        CHECK(reads(11, 0, 0));
+        memcpy(strstr(text, "count="), "COUNT=", 6);
+        CHECK(reads(11, 0, 0));
+        text_len = 1048576;
+        CHECK(reads(10, old ? 9 : 10, 0));
+    }
+}
+
+/* The program holds 1,024 instructions and 65,536 bytes, in either format. */
+static void program(void)
+{
+    static char whole[ROOM_TEXT];
+
+    say(worked);
+    CHECK(rewrites(rewritten));
+    for (int old = 0; old < 2; old++) {
+        say_nops(false, 1024);
+        memcpy(whole, text, text_len + 1);
+        say_nops(old, 1024);
+        CHECK(report("answer=0\nsteps=01024\nplace=00000\ncursor=0012\n") && rewrites(whole));
+        break_last_mod();
+        CHECK(report("answer=8\nsteps=00000\nplace=01023\ncursor=0012\n") && rewrites("answer=8\nsteps=00000\nplace=01023\ncursor=0012\n"));
+        break_last_line();
+        CHECK(report(old ? "answer=10\nsteps=00000\nplace=01033\ncursor=0000\n" : "answer=10\nsteps=00000\nplace=01034\ncursor=0000\n"));
+    }
+
+    /* One more: an old listing's count is too great, and for format 2 there is no room, after all else. */
+    say_nops(true, 1025);
+    CHECK(report("answer=5\nsteps=00000\nplace=00000\ncursor=0012\n") && rewrites("answer=5\nsteps=00000\nplace=00000\ncursor=0012\n"));
+    say_nops(false, 1025);
+    CHECK(report("answer=11\nsteps=00000\nplace=00000\ncursor=0000\n") && rewrites("answer=11\nsteps=00000\nplace=00000\ncursor=0000\n"));
+    break_last_mod();
+    CHECK(report("answer=8\nsteps=00000\nplace=01024\ncursor=0012\n"));
+    break_last_line();
+    CHECK(report("answer=10\nsteps=00000\nplace=01035\ncursor=0000\n"));
+    say_nops(false, 1557), break_last_mod();            /* 114 and 1,557 times 42 are 65,508 bytes */
+    CHECK(text_len == 65508 && report("answer=8\nsteps=00000\nplace=01556\ncursor=0012\n"));
+
+    /* Too long, before anything else. */
+    say_nops(false, 1558), break_last_mod();
+    CHECK(report("answer=11\nsteps=00000\nplace=00000\ncursor=0000\n") && rewrites("answer=11\nsteps=00000\nplace=00000\ncursor=0000\n"));
+    say_nops(false, 16384);
+    CHECK(report("answer=11\nsteps=00000\nplace=00000\ncursor=0000\n"));
+    for (int old = 0; old < 2; old++) {
+        say(old ? worked : rewritten);
+        memset(text + text_len, 'x', sizeof text - text_len);
+        text_len = 65536;
+        CHECK(report(old ? "answer=10\nsteps=00000\nplace=00011\ncursor=0000\n" : "answer=10\nsteps=00000\nplace=00012\ncursor=0000\n"));
+        text_len = 65537;
+        CHECK(report("answer=11\nsteps=00000\nplace=00000\ncursor=0000\n") && rewrites("answer=11\nsteps=00000\nplace=00000\ncursor=0000\n"));
+    }
 }
 
 int ind_selftest(void)
@@ -1100,6 +1315,9 @@ int ind_selftest(void)
     damaged_entries();
     walks_as_runs();
     listings();
+    formats();
+    limits();
+    program();
     if (failures == 0) printf("selftest: all good\n");
     return failures == 0 ? 0 : 1;
 }

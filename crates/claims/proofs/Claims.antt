@@ -24,8 +24,9 @@ use Rattle.lane.proofs.Packed.{packed-unpacked, unpacked-packed}
 use Rattle.runner.specs.declared.Outcome.{Outcome}
 use Rattle.runner.specs.Checks.{runAnswer, listAnswer}
 use Rattle.runner.specs.Run.{Ran}
-use Rattle.listing.specs.Listing.{Read, settingsOf, acceptedReading}
-use Rattle.listing.proofs.Writers.{few-words, write-done}
+use Rattle.runner.proofs.Accepted.{listed}
+use Rattle.listing.specs.Listing.{Format, Read, settingsOf, listingIn, listing, acceptedReading}
+use Rattle.listing.proofs.Writers.{write-done}
 use Rattle.claims.specs.Twelve.{same}
 use Rattle.claims.specs.Claims as Claims
 use Rattle.claims.proofs.Isolation.{isolation}
@@ -37,7 +38,7 @@ use Rattle.claims.proofs.WalkInstance as WalkInstance
 use Rattle.claims.proofs.Comparison as Comparison
 use Rattle.claims.proofs.Back.{gives-back}
 use Rattle.claims.proofs.Refusals as Refusals
-use Rattle.claims.proofs.Readings.{read-listing, held, held-listing}
+use Rattle.claims.proofs.Readings.{read-in-format, read-listing, held, held-few, held-listing, read-rewritten, report-rewritten}
 use Rattle.claims.proofs.Faults.{ten-names}
 
 -- ---- columns
@@ -173,20 +174,29 @@ written-then-read = read-listing
 
 pub read-then-written : Claims.ReadThenWritten
 unfolding Claims.ReadThenWritten acceptedReading
-read-then-written room t e =
+read-then-written room t f e =
     let h = held room t e in
     let s = settingsOf (h .ns) in
-    let q = held-listing room t h in
+    let q : t ≡ listing s (h .list) = held-listing room t h ∙ ap (λ (x : Format). listingIn x s (h .list)) f in
     rw (h .reads) (rw (← q) at (write-done (length t) s (h .list) (listAnswer s (h .list)) refl (h .good) (rw (← q) (omega arith))))
 
 pub accepted-exactly-if-writable : Claims.AcceptedExactlyIfWritable
 unfolding Claims.AcceptedExactlyIfWritable acceptedReading
 accepted-exactly-if-writable room t = (
-  λ e. let h = held room t e in (settingsOf (h .ns), (h .list, (h .good, held-listing room t h))),
-  λ l w.
-      let q = read-listing room (w .0) (w .1 .0) (w .1 .1 .0) (omega (arith, few-words (w .0) (w .1 .0) (w .1 .1 .0))) in
-      rw (w .1 .1 .1) (ap (λ (r : Read). r .reading .answer) q),
+  λ e. let h = held room t e in (settingsOf (h .ns), (h .list, (h .good, (held-few room t h, held-listing room t h)))),
+  λ f m l w.
+      let few = w .1 .1 .1 .0 in
+      let q = read-in-format f m room (w .0) (w .1 .0) (w .1 .1 .0) few (omega (arith, listed (w .0) (w .1 .0) (w .1 .1 .0) .checked .six)) in
+      rw (w .1 .1 .1 .1) (ap (λ (r : Read). r .reading .answer) q),
 )
+
+pub rewritten-reads-the-same : Claims.RewrittenReadsTheSame
+unfolding Claims.RewrittenReadsTheSame
+rewritten-reads-the-same = read-rewritten
+
+pub rewritten-reports-the-same : Claims.RewrittenReportsTheSame
+unfolding Claims.RewrittenReportsTheSame
+rewritten-reports-the-same = report-rewritten
 
 pub ten-names-the-line : Claims.TenNamesTheLine
 unfolding Claims.TenNamesTheLine

@@ -13,12 +13,13 @@ use Rattle.lane.proofs.Cases.{pick-lt}
 use Rattle.lane.proofs.Accepted.{settings-in-range, in-range-settings}
 use Rattle.runner.specs.declared.Found.{Found}
 use Rattle.runner.specs.declared.Outcome.{Outcome}
-use Rattle.runner.specs.Checks.{countOf, runAnswer}
+use Rattle.runner.specs.Checks.{countOf, listLimit, runAnswer}
 use Rattle.runner.specs.Run.{Machine, stepped, steps, begin, finish, whenDone, Ran}
 use Rattle.runner.proofs.Accepted.{Accepted, accepted, run-accepted}
+use Rattle.runner.proofs.Scan.{insn-first, insn-second}
 use Rattle.claims.specs.Claims.{withCursor, PartsOf}
 use Rattle.claims.proofs.Kept.{good-steps, length-steps, length-dst-steps}
-use Rattle.claims.proofs.Runs.{done, insn-first, insn-second, cut, cut-ties}
+use Rattle.claims.proofs.Runs.{done, cut, cut-ties}
 
 -- ---- the cursor stays in its range
 
@@ -56,7 +57,7 @@ module _ (s : Settings) (a b image dst : List ℕ) (six : length a % 6 ≡ 0) (h
   joined : length (a ++ b) ≡ length a + length b
   joined = length-append a b
 
-  few : length (a ++ b) / 6 ≤ 1024
+  few : length (a ++ b) / 6 ≤ listLimit
   few = all .passed .list-given .few
 
   whole : length (a ++ b) % 6 ≡ 0

@@ -10,6 +10,7 @@ pub mod Isolation
 pub mod Instance
 pub mod WalkInstance
 pub mod Refusals
+pub mod Table
 pub mod Ranges
 pub mod Readings
 pub mod Ends

@@ -12,9 +12,9 @@ use lib.Dec.{eqb}
 use borrow.Author.Tests.{eq-eqb, ne-eqb, eqb-false, lt-ltb, le-ltb}
 use Rattle.lane.specs.Words.{pick}
 use Rattle.lane.proofs.Cases.{pick-true, pick-false}
-use Rattle.listing.specs.Forms.{Item, lit, dec, hex, name, Form, LF, glyph, digits, names, nameOf, bytes, spell, Scan, taken, faulty, joined, follow, ends, scan, scanItem, takes, render, renderItem}
+use Rattle.listing.specs.Forms.{Item, lit, dec, hex, name, Form, LF, glyph, digits, names, nameOf, bytes, spell, Scan, taken, faulty, joined, follow, ends, linesIn, scan, scanItem, takes, render, renderItem}
 use Rattle.claims.specs.Claims.{firstLines}
-use Rattle.listing.proofs.Joins.{joined-taken, linesIn}
+use Rattle.listing.proofs.Joins.{joined-taken}
 use Rattle.claims.proofs.Ends.{ends-one, item-fault}
 use Rattle.listing.proofs.Names.{every, every-at, no-name}
 use Rattle.listing.proofs.Trips.{Fit, Fits, item-taken, item-back, item-own, fit-own, apart}

@@ -16,8 +16,10 @@ use Rattle.runner.specs.Checks.{insnAt, countOf, listAnswer}
 use Rattle.runner.proofs.Scan.{insn-words}
 use Rattle.runner.proofs.Accepted.{Each, listed}
 use Rattle.listing.specs.Forms.{Item, lit, dec, hex, name, Form, literal, takes}
-use Rattle.listing.specs.Listing.{header, line, lines, headerOf}
+use Rattle.listing.specs.Listing.{Format, old, two, formats, headerWith, head, line, lines, headerOf}
 use Rattle.listing.proofs.Trips.{Fit, Fits}
+use Rattle.claims.specs.Claims.{Among}
+use Rattle.claims.proofs.Table.{of-each}
 
 -- ---- forms
 
@@ -80,9 +82,9 @@ either : (n : ℕ) → (n ≡ 1) ⊎ (n ≡ 2) → n < 10 ^ 1
 either n (inl e) = omega arith
 either n (inr e) = omega arith
 
-header-fits : (s : Settings) (count : ℕ) → settingsGood s ≡ true → count ≤ 1024 → Fits header (headerOf s count)
-unfolding header headerOf
-header-fits s count h k =
+header-fits : (w : ℕ) (s : Settings) (count : ℕ) → settingsGood s ≡ true → count < 10 ^ w → Fits (headerWith w) (headerOf s count)
+unfolding headerWith headerOf
+header-fits w s count h k =
     let r = settings-in-range s h in
     then-line _ 1 _ (either _ (r .edition)) _ _
     (then-line _ 1 _ (either _ (r .srcb)) _ _
@@ -91,7 +93,15 @@ header-fits s count h k =
     (then-line _ 4 _ (omega (arith, r .stride0)) _ _
     (then-line _ 4 _ (omega (arith, r .stride1)) _ _
     (then-line _ 4 _ (omega (arith, r .stride2)) _ _
-    (then-line _ 4 _ (omega (arith, r .stride3)) _ _ (fits-line _ 4 _ (omega arith)))))))))
+    (then-line _ 4 _ (omega (arith, r .stride3)) _ _ (fits-line _ w _ k))))))))
+
+-- the head of every format, for a count within its limit
+head-fits : (f : Format) → Among f formats → (s : Settings) (count : ℕ) → settingsGood s ≡ true → count ≤ f .limit → Fits (head f) (headerOf s count)
+unfolding head
+head-fits =
+    of-each (λ f. (s : Settings) (count : ℕ) → settingsGood s ≡ true → count ≤ f .limit → Fits (literal (f .mark) ++ f .header) (headerOf s count))
+    (λ s count h k. fits-literal (two .mark) _ _ (header-fits 5 s count h (omega arith)))
+    (λ s count h k. fits-literal (old .mark) _ _ (header-fits 4 s count h (omega arith)))
 
 -- ---- instructions
 
@@ -119,10 +129,10 @@ lines-fit list (suc n) k e h =
     (fits-append line (lines n) _ (drop (6 * (k + 1)) list) (line-fits (insnAt list k) (fields-fit (insnAt list k) (h k (omega arith) (omega arith))))
     (lines-fit list n (k + 1) (omega arith) (λ j a b. h j (omega arith) (omega arith))))
 
-pub list-fits : (s : Settings) (list : List ℕ) → listAnswer s list .answer ≡ 0
-    → Fits header (headerOf s (countOf list)) × Fits (lines (countOf list)) list
-list-fits s list e =
+pub list-fits : (f : Format) → Among f formats → (s : Settings) (list : List ℕ) → listAnswer s list .answer ≡ 0 → countOf list ≤ f .limit
+    → Fits (head f) (headerOf s (countOf list)) × Fits (lines (countOf list)) list
+list-fits f m s list e k =
     let a = listed s list e in (
-      header-fits s (countOf list) (a .checked .settings-good) (a .checked .few),
+      head-fits f m s (countOf list) (a .checked .settings-good) k,
       lines-fit list (countOf list) 0 (omega (arith, a .checked .six)) (λ j z l. a .each j (omega arith)),
     )

@@ -11,7 +11,7 @@ use Rattle.runner.specs.Checks.{listAnswer}
 use Rattle.listing.specs.declared.Reading.{Reading}
 use Rattle.listing.specs.declared.Writing.{Writing}
 use Rattle.listing.specs.Forms.{Scan, taken, faulty, scan}
-use Rattle.listing.specs.Listing.{header, lines, settingsOf, countIn, inFront, Read, Write, refusedReading, refuseRead, acceptedReading, readList, readRest, readHeader, readText, refusedWriting, acceptedWriting, listing, writeList}
+use Rattle.listing.specs.Listing.{Format, formatOf, head, firstLine, lines, settingsOf, countIn, inFront, Read, Write, refusedReading, refuseRead, acceptedReading, readList, readRest, readHeader, readAs, textLimit, readText, refusedWriting, acceptedWriting, listing, writeList}
 use Rattle.claims.specs.Claims.{RefusedReadingTouchesNothing, RefusedWritingTouchesNothing}
 
 -- ---- readings
@@ -40,21 +40,22 @@ list-empty room s list =
     (either-empty (leb (length list) room) _ _ (done-empty s list) (refused-empty 11 0 0))
     (refused-empty (listAnswer s list .answer) (listAnswer s list .place) (s .cursor))
 
-rest-empty : (room : ℕ) (ns : List ℕ) (x : Scan) → Empty (readRest room ns x)
+rest-empty : (f : Format) (room : ℕ) (ns : List ℕ) (x : Scan) → Empty (readRest f room ns x)
 unfolding readRest
-rest-empty room ns (faulty k) = refused-empty 10 (10 + k) 0
-rest-empty room ns (taken list extra) =
-    either-empty (eqb (length extra) 0) _ _ (list-empty room (settingsOf ns) list) (refused-empty 10 (10 + countIn ns) 0)
+rest-empty f room ns (faulty k) = refused-empty 10 (firstLine f + k) 0
+rest-empty f room ns (taken list extra) =
+    either-empty (eqb (length extra) 0) _ _ (list-empty room (settingsOf ns) list) (refused-empty 10 (firstLine f + countIn ns) 0)
 
-header-empty : (room : ℕ) (x : Scan) → Empty (readHeader room x)
+header-empty : (f : Format) (room : ℕ) (x : Scan) → Empty (readHeader f room x)
 unfolding readHeader
-header-empty room (faulty k) = refused-empty 10 (1 + k) 0
-header-empty room (taken ns rest) =
-    either-empty (leb (countIn ns) 1024) _ _ (rest-empty room ns (scan (lines (countIn ns)) rest)) (refused-empty 5 0 (settingsOf ns .cursor))
+header-empty f room (faulty k) = refused-empty 10 (1 + k) 0
+header-empty f room (taken ns rest) =
+    either-empty (leb (countIn ns) (f .limit)) _ _ (rest-empty f room ns (scan (lines (countIn ns)) rest)) (refused-empty 5 0 (settingsOf ns .cursor))
 
 text-empty : (room : ℕ) (t : List ℕ) → Empty (readText room t)
-unfolding readText
-text-empty room t = either-empty (leb (length t) 65536) _ _ (header-empty room (scan header t)) (refused-empty 11 0 0)
+unfolding readText readAs
+text-empty room t =
+    either-empty (leb (length t) textLimit) _ _ (header-empty (formatOf t) room (scan (head (formatOf t)) t)) (refused-empty 11 0 0)
 
 -- nothing in front of a room is the room
 untouched : (xs before : List ℕ) → xs ≡ [] → inFront xs before ≡ before

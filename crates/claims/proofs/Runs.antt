@@ -6,8 +6,7 @@ use native.Mathlib.Decide.{decLe}
 use native.Mathlib.Omega.{arith}
 use mathlib.Core.Bool.{Bool, true, false}
 use mathlib.Core.List.{List, _++_}
-use lib.ListN.{length, getD, length-append, List·getD-append, List·getD-eq-default}
-use lib.Seq.{getD-append-add}
+use lib.ListN.{length, getD, length-append, List·getD-eq-default}
 use lib.Dec.{eqb}
 use borrow.Author.Tests.{eq-eqb, ne-eqb, eqb-true}
 use Rattle.lane.specs.declared.Settings.{Settings}
@@ -22,6 +21,7 @@ use Rattle.runner.specs.Image.{imageGood}
 use Rattle.runner.specs.Checks.{insnAt, countOf, runAnswer}
 use Rattle.runner.specs.Run.{Machine, laneAfter, imageAt, imageAfter, dstAfter, stepped, steps, begin, finish, tieIn, overColumn, tiesAfter, tiesOf, whenDone, whenRefused, outcomeOf, runImage, runDst}
 use Rattle.runner.proofs.Counts.{few-ties}
+use Rattle.runner.proofs.Scan.{insn-first, insn-second}
 use Rattle.claims.specs.Claims.{withCursor}
 use Rattle.claims.proofs.Kept.{good-steps, length-steps}
 
@@ -121,36 +121,6 @@ unfolding steps
 steps-cursor k s list zero m = refl
 steps-cursor k s list (suc n) m =
     ap (λ (x : Machine). stepped (withCursor k s) (insnAt list n) x) (steps-cursor k s list n m) ∙ step-cursor k s (insnAt list n) (steps s list n m)
-
--- the instructions of a joined list
-pub insn-first : (a b : List ℕ) (k : ℕ) → 6 * k + 5 < length a → insnAt (a ++ b) k ≡ insnAt a k
-unfolding insnAt
-insn-first a b k h =
-    λ i.
-    record {
-      op = List·getD-append a b 0 (6 * k) (omega arith) i;
-      imm = List·getD-append a b 0 (6 * k + 1) (omega arith) i;
-      vb = List·getD-append a b 0 (6 * k + 2) (omega arith) i;
-      vc = List·getD-append a b 0 (6 * k + 3) (omega arith) i;
-      vd = List·getD-append a b 0 (6 * k + 4) (omega arith) i;
-      md = List·getD-append a b 0 (6 * k + 5) (omega arith) i;
-    }
-
-word-second : (a b : List ℕ) (j k : ℕ) → k ≡ length a + j → getD (a ++ b) k 0 ≡ getD b j 0
-word-second a b j k e = ap (λ (x : ℕ). getD (a ++ b) x 0) e ∙ getD-append-add a b j 0
-
-pub insn-second : (a b : List ℕ) (k : ℕ) → length a % 6 ≡ 0 → insnAt (a ++ b) (length a / 6 + k) ≡ insnAt b k
-unfolding insnAt
-insn-second a b k h =
-    λ i.
-    record {
-      op = word-second a b (6 * k) (6 * (length a / 6 + k)) (omega arith) i;
-      imm = word-second a b (6 * k + 1) (6 * (length a / 6 + k) + 1) (omega arith) i;
-      vb = word-second a b (6 * k + 2) (6 * (length a / 6 + k) + 2) (omega arith) i;
-      vc = word-second a b (6 * k + 3) (6 * (length a / 6 + k) + 3) (omega arith) i;
-      vd = word-second a b (6 * k + 4) (6 * (length a / 6 + k) + 4) (omega arith) i;
-      md = word-second a b (6 * k + 5) (6 * (length a / 6 + k) + 5) (omega arith) i;
-    }
 
 steps-first : (s : Settings) (a b : List ℕ) (n : ℕ) (m : Machine) → 6 * n ≤ length a → steps s (a ++ b) n m ≡ steps s a n m
 unfolding steps

@@ -27,9 +27,9 @@ use Rattle.listing.specs.declared.Reading.{Reading}
 use Rattle.listing.specs.declared.Writing.{Writing}
 use Rattle.listing.specs.declared.Reporting.{Reporting}
 use Rattle.listing.specs.Report.{Reports}
-use Rattle.listing.specs.Program.{output}
+use Rattle.listing.specs.Program.{output, rewritten}
 use Rattle.listing.specs.Forms.{LF, taken, scan}
-use Rattle.listing.specs.Listing.{header, lines, countIn, inFront, acceptedReading, acceptedWriting, listing, readText, writeList}
+use Rattle.listing.specs.Listing.{Format, formats, written, formatOf, head, lines, countIn, inFront, acceptedReading, acceptedWriting, listingIn, listing, readText, writeList}
 use Rattle.claims.specs.Twelve.{all, twelve}
 
 -- ---- columns
@@ -384,23 +384,44 @@ WrittenThenRead =
     → length list ≤ room
     → readText room (listing s list) ≡ record { reading = acceptedReading s (length list); list = list }
 
--- Whatever is read, written again into room enough, gives the same bytes.
+-- Whatever is read, written again into room enough, gives the same bytes, if it is in the format that is written.
 unfoldable pub ReadThenWritten : Type 0
 ReadThenWritten =
     (room : ℕ) (t : List ℕ)
+    → formatOf t ≡ written
     → readText room t .reading .answer ≡ 0
     → writeList (length t) (readText room t .reading .settings) (readText room t .list)
     ≡ record { writing = acceptedWriting (readText room t .reading .settings) (length t); bytes = t }
 
--- The writer could have written a text.
-abbrev pub Writable : List ℕ → Type 0
-Writable t = (s : Settings) × ((list : List ℕ) × ((listAnswer s list .answer ≡ 0) × (t ≡ listing s list)))
+-- A format is a row of the table.
+unfoldable pub Among : Format → List Format → Type 0
+Among f [] = ⊥
+Among f (g ∷ gs) = (f ≡ g) ⊎ Among f gs
 
--- A text is accepted, given room enough, exactly if the writer could have written it.
+-- A format's writer could have written a text, from settings and a list that no check refuses, within its limit. It knows the operations added since.
+abbrev pub Writable : Format → List ℕ → Type 0
+Writable f t =
+    (s : Settings)
+    × ((list : List ℕ) × ((listAnswer s list .answer ≡ 0) × ((countOf list ≤ f .limit) × (t ≡ listingIn f s list))))
+
+-- A text is accepted, given room enough, exactly if its format's writer could have written it: for format 2 that is the library's writer, for an old listing
+-- the writer of document 01.
 unfoldable pub AcceptedExactlyIfWritable : Type 0
 AcceptedExactlyIfWritable =
     (room : ℕ) (t : List ℕ)
-    → (readText room t .reading .answer ≡ 0 → Writable t) × (6144 ≤ room → Writable t → readText room t .reading .answer ≡ 0)
+    → (readText room t .reading .answer ≡ 0 → Writable (formatOf t) t)
+    × ((f : Format) → Among f formats → 6 * f .limit ≤ room → Writable f t → readText room t .reading .answer ≡ 0)
+
+-- A listing in any format reads to the same settings and list as its rewritten form,
+unfoldable pub RewrittenReadsTheSame : Type 0
+RewrittenReadsTheSame =
+    (room : ℕ) (t : List ℕ)
+    → readText room t .reading .answer ≡ 0
+    → readText room (listing (readText room t .reading .settings) (readText room t .list)) ≡ readText room t
+
+-- and the program prints the same report for both.
+unfoldable pub RewrittenReportsTheSame : Type 0
+RewrittenReportsTheSame = (t : List ℕ) → rewritten t .answer ≡ 0 → output (rewritten t .bytes) ≡ output t
 
 -- The first k lines of a text, each with the LF that ends it; the last may lack its own.
 unfoldable pub firstLines : ℕ → List ℕ → List ℕ
@@ -408,12 +429,12 @@ firstLines zero t = []
 firstLines (suc k) [] = []
 firstLines (suc k) (b ∷ t) = b ∷ pick (eqb b LF) (firstLines k t) (firstLines (suc k) t)
 
--- A text in form, fields of the right width, whatever their range: a header, as many instruction lines as it counts, and no more.
+-- A text in form, fields of the right width, whatever their range: the head of its format, as many instruction lines as it counts, and no more.
 pub record InForm (t : List ℕ) : Type 0 where
   pub ns : List ℕ
   pub rest : List ℕ
   pub list : List ℕ
-  pub headed : scan header t ≡ taken ns rest
+  pub headed : scan (head (formatOf t)) t ≡ taken ns rest
   pub lined : scan (lines (countIn ns)) rest ≡ taken list []
 
 -- Line n of t, counted from 1, is the first not in form, missing or extra: the lines before it begin some text in form, and no text in form

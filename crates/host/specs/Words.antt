@@ -57,4 +57,4 @@ writingWords r = r .answer ∷ (r .steps ∷ (r .place ∷ (r .cursor ∷ (r .le
 
 -- What the library replays: 1000 is document 01 by itself, and 1000 plus n is with the requests of document 02 up to M-n.
 abbrev pub version : ℕ
-version = 1103
+version = 1105

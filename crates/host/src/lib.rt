@@ -27,7 +27,7 @@ ghost use Rattle.listing.specs.Report.{reported, reporting};
 ghost use Rattle.host.specs.Words.{settingsWords, insnOf, outcomeWords, begunWords, walkOf, walkBegun, cellsWords, readingWords, writingWords, version};
 
 // What the library replays, as specs/ counts it.
-const VERSION: u32 = 1103;
+const VERSION: u32 = 1105;
 
 // An instruction, from six words in the list's order.
 fn insn_of(words: &[u32; 6]) -> Insn

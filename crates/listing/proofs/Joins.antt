@@ -4,7 +4,7 @@ use Prim.Native.Nat.{ℕ, _+_}
 use native.Mathlib.Nat.{add-zero, zero-add, add-assoc}
 use native.Mathlib.Omega.{arith}
 use mathlib.Core.List.{List, [], _∷_, _++_, append-nil, append-assoc}
-use Rattle.listing.specs.Forms.{Item, Form, Scan, taken, faulty, joined, follow, ends, scan, scanItem}
+use Rattle.listing.specs.Forms.{Item, Form, Scan, taken, faulty, joined, follow, ends, linesIn, scan, scanItem}
 
 pub joined-none : (s : Scan) → joined [] 0 s ≡ s
 unfolding joined
@@ -37,11 +37,6 @@ scan-item i f t ms rest e = rw e
 pub scan-fault : (i : Item) (f : Form) (t : List ℕ) (k : ℕ) → scanItem i t ≡ faulty k → scan (i ∷ f) t ≡ faulty k
 unfolding scan follow
 scan-fault i f t k e = rw e
-
--- ends of lines in a form
-unfoldable pub linesIn : Form → ℕ
-linesIn [] = 0
-linesIn (i ∷ f) = ends i + linesIn f
 
 follow-joined : (ms : List ℕ) (j k : ℕ) (s : Scan) (g : List ℕ → Scan) → joined ms j (follow k s g) ≡ follow (j + k) (joined ms j s) g
 unfolding joined follow

@@ -7,6 +7,7 @@ pub mod Trips
 pub mod Rooms
 pub mod Joins
 pub mod Walks
+pub mod FormatTable
 pub mod Readers
 pub mod Writers
 pub mod Reports

@@ -1,83 +1,42 @@
--- The reader: its forms as byte strings, the loop over instruction lines, and what each return says. Assumes nothing.
+-- The reader: the two loops over instruction lines, and what each return says. Assumes nothing.
 use mathlib.Core.Path.{_≡_, refl, sym, ap, _∙_}
-use Prim.Native.Nat.{ℕ, suc, _+_, _-_, _*_, _<_, _≤_}
+use Prim.Native.Nat.{ℕ, suc, _+_, _-_, _*_, _/_, _<_, _≤_}
 use native.Mathlib.Nat.{sub-zero}
 use native.Mathlib.Omega.{arith}
 use mathlib.Core.Bool.{Bool, true, false}
-use mathlib.Core.List.{List, [], _++_}
-use lib.ListN.{length, take, drop, drop-of-length-le}
+use mathlib.Core.List.{List, [], _++_, append-nil, append-assoc}
+use lib.ListN.{length, take, drop, length-append, drop-of-length-le}
 use lib.Seq.{getD-take, length-take-le}
 use lib.Dec.{eqb}
 use borrow.Author.Tests.{eq-eqb, ne-eqb, le-leb, lt-leb}
 use Rattle.lane.specs.declared.Settings.{Settings}
 use Rattle.lane.specs.Words.{pick}
+use Rattle.lane.specs.Refusals.{settingsGood, instructionAnswer}
 use Rattle.lane.proofs.Cases.{pick-true, pick-false}
 use Rattle.runner.specs.declared.Found.{Found}
-use Rattle.runner.specs.Checks.{listAnswer}
+use Rattle.runner.specs.Checks.{insnAt, found, scan as scanList, scanned, listLimit, listAnswer}
+use Rattle.runner.proofs.Accepted.{list-unset, list-scanned}
+use Rattle.runner.proofs.Scan.{scan-grows}
+use Rattle.listing.specs.declared.Reading.{Reading}
 use Rattle.listing.specs.declared.Scanned.{Scanned}
-use Rattle.listing.specs.Forms.{Form, Scan, taken, faulty, joined, follow, ends, scan, scanItem, scanByte, takes, spell, bytes, literal}
-use Rattle.listing.specs.PrivatePlaces.{itemOf, formOf, numbers, Grown, Finds, Scans}
-use Rattle.listing.specs.PrivateReader.{formBy, FoundAt}
-use Rattle.listing.specs.Listing.{header, line, lines, settingsOf, countIn, refuseRead, acceptedReading, readList, readRest, readHeader, readText}
-use Rattle.listing.proofs.Joins.{joined-none, joined-joined, joined-end, linesIn, scan-then, scan-not}
-use Rattle.listing.proofs.Rooms.{grown-none, grown-more}
-use Rattle.listing.proofs.Trips.{scan-whole}
-
--- ---- the forms that the code has
-
-abbrev pub headerBytes : List ℕ
-headerBytes =
-    bytes "edition=\u{1}\nsrcb=\u{1}\noffset=\u{4}\ncursor=\u{4}\nstride0=\u{4}\nstride1=\u{4}\nstride2=\u{4}\nstride3=\u{4}\ncount=\u{4}\n"
-
-abbrev pub lineBytes : List ℕ
-lineBytes = bytes "op=\u{e}imm=\u{5} vb=\u{2} vc=\u{2} vd=\u{2} mod=\u{2}\n"
-
-pub header-form : formOf headerBytes ≡ header
-unfolding formOf itemOf header bytes spell literal pick
-header-form = refl
-
-pub line-form : formOf lineBytes ≡ line
-unfolding formOf itemOf line bytes spell literal pick
-line-form = refl
-
-pub header-numbers : numbers header ≡ 9
-unfolding numbers header takes bytes spell literal
-header-numbers = refl
-
-pub line-numbers : numbers line ≡ 6
-unfolding numbers line takes bytes spell literal
-line-numbers = refl
-
-pub line-lines : linesIn line ≡ 1
-unfolding linesIn line ends bytes spell literal pick
-line-lines = refl
-
-pub header-lines : linesIn header ≡ 9
-unfolding linesIn header ends bytes spell literal pick
-header-lines = refl
+use Rattle.listing.specs.Forms.{Form, Scan, taken, faulty, joined, scan}
+use Rattle.listing.specs.PrivatePlaces.{numbers, Grown, Finds, Checked, numbersOf, Whole}
+use Rattle.listing.specs.PrivateReader.{formatBy, FormatOf, FoundAt, firstRefused, Reads}
+use Rattle.listing.specs.Listing.{Format, formatOf, head, firstLine, line, lines, settingsOf, countIn, inFront, Read, refusedReading, refuseRead, acceptedReading, readList, readRest, readHeader, readAs, textLimit, readText}
+use Rattle.listing.proofs.FormatTable.{line-numbers, line-lines, lines-numbers, by-line, by-head, by-sound, form-no-text}
+use Rattle.listing.proofs.Joins.{joined-none, joined-joined, joined-end, joined-taken, scan-then, scan-not}
+use Rattle.listing.proofs.Rooms.{grown-none, grown-more, grown-whole}
+use Rattle.listing.proofs.Trips.{apart, scan-whole}
 
 -- ---- what the reader finds
 
-pub by-header : (k : ℕ) → k ≡ 0 → formBy k ≡ header
-unfolding formBy
-by-header k h = pick-true _ _ _ (eq-eqb k 0 h)
-
-pub by-line : (k : ℕ) → (k ≡ 0 → ⊥) → formBy k ≡ line
-unfolding formBy
-by-line k h = pick-false _ _ _ (ne-eqb k 0 h)
-
-no-text : (b : Bool) → scan (pick b header line) [] ≡ faulty 0
-unfolding pick scan follow scanItem scanByte header line bytes spell literal
-no-text true = refl
-no-text false = refl
-
 pub found-past : (t : List ℕ) (at first k : ℕ) (room : List ℕ) → length t < at
     → FoundAt t at first k (record { good = false; at = length t; line = first; n = 0; numbers = room })
-unfolding pick formBy
+unfolding pick
 found-past t at first k room h =
     let z : first - first ≡ 0 = omega arith in
     record {
-      scanned = rw (drop-of-length-le t {i = at} (omega arith), z) (no-text (eqb k 0));
+      scanned = rw (drop-of-length-le t {i = at} (omega arith), z) (form-no-text k);
       held = omega arith;
       within = omega arith;
       onward = omega arith;
@@ -98,142 +57,294 @@ lines-more count i h =
     let e : count - i ≡ suc (count - (i + 1)) = omega arith in
     rw e
 
-module _ (t : List ℕ) (from count : ℕ) (before : List ℕ) where
-  pub record Lining (words : List ℕ) (at n i : ℕ) : Type 0 where
+-- one line found at a position
+module _ (t : List ℕ) (at first : ℕ) (c : Scanned) (there : FoundAt t at first 0 c) where
+  line-found : Finds (scan line (drop at t)) t first c
+  line-found = rw (by-line 0 refl) at there
+
+  module _ (b : c .good ≡ true) where
+    six-numbers : c .n ≡ 6
+    six-numbers = found-all line (drop at t) t first c line-found b ∙ line-numbers
+
+    line-taken : scan line (drop at t) ≡ taken (take 6 (c .numbers)) (drop (c .at) t)
+    line-taken =
+        line-found .scanned ∙ pick-true _ _ _ b ∙ ap (λ (n : ℕ). taken (take n (c .numbers)) (drop (c .at) t)) six-numbers
+
+    six-long : length (take 6 (c .numbers)) ≡ 6
+    six-long = length-take-le 6 (c .numbers) (omega (arith, line-found .held, six-numbers))
+
+    -- and then the rest of the lines
+    then-lines : (count i : ℕ) → i < count
+        → scan (lines (count - i)) (drop at t) ≡ joined (take 6 (c .numbers)) 1 (scan (lines (count - (i + 1))) (drop (c .at) t))
+    then-lines count i l =
+        rw (lines-more count i l, scan-then line (lines (count - (i + 1))) (drop at t) (take 6 (c .numbers)) (drop (c .at) t) line-taken, line-lines) refl
+
+  no-line : c .good ≡ false → (count i : ℕ) → i < count → scan (lines (count - i)) (drop at t) ≡ faulty (c .line - first)
+  no-line b count i l =
+      rw (lines-more count i l)
+      (scan-not line (lines (count - (i + 1))) (drop at t) (c .line - first) (line-found .scanned ∙ pick-false _ _ _ b))
+
+-- the first six of a line's numbers are an instruction
+same-insn : (ns : List ℕ) → insnAt (take 6 ns) 0 ≡ insnAt ns 0
+unfolding insnAt
+same-insn ns =
+    rw (
+      getD-take 6 ns 0 0 (omega arith),
+      getD-take 6 ns 1 0 (omega arith),
+      getD-take 6 ns 2 0 (omega arith),
+      getD-take 6 ns 3 0 (omega arith),
+      getD-take 6 ns 4 0 (omega arith),
+      getD-take 6 ns 5 0 (omega arith),
+    )
+
+-- the first refused of some instructions and one more: that one, where it is refused and none was before
+module _ (answer place k a next : ℕ) where
+  pub first-new : answer ≡ 0 → next ≡ a → (next ≡ 0 → ⊥) → found next k ≡ firstRefused (found answer place) k a
+  unfolding firstRefused
+  first-new z e n = sym (pick-true _ _ _ (eq-eqb answer 0 z) ∙ rw (← e) (pick-false _ _ _ (ne-eqb next 0 n)))
+
+  pub first-kept : answer ≡ 0 → next ≡ a → next ≡ 0 → found answer place ≡ firstRefused (found answer place) k a
+  unfolding firstRefused
+  first-kept z e n = sym (pick-true _ _ _ (eq-eqb answer 0 z) ∙ rw (← e) (pick-true _ _ _ (eq-eqb next 0 n)))
+
+pub first-held : (answer place k a : ℕ) → (answer ≡ 0 → ⊥) → found answer place ≡ firstRefused (found answer place) k a
+unfolding firstRefused
+first-held answer place k a n = sym (pick-false _ _ _ (ne-eqb answer 0 n))
+
+-- ---- the first time over them
+
+module _ (t : List ℕ) (from first count : ℕ) where
+  pub record Checking (at answer place i : ℕ) : Type 0 where
     pub ns : List ℕ
     pub goes : scan (lines count) (drop from t) ≡ joined ns i (scan (lines (count - i)) (drop at t))
-    pub grown : Grown 0 n before words ns
-    pub same : length words ≡ length before
+    pub refused : found answer place ≡ scanList ns 0 i
+    pub six : length ns ≡ 6 * i
     pub within : at ≤ length t
     pub upTo : i ≤ count
-    pub six : n ≡ 6 * i
 
-  pub lining-start : from ≤ length t → Lining before from 0 0
-  lining-start h =
+  pub checking-start : from ≤ length t → Checking from 0 0 0
+  unfolding scanList
+  checking-start h =
       record {
         ns = [];
         goes = rw (sub-zero count) (sym (joined-none (scan (lines count) (drop from t))));
-        grown = grown-none 0 before;
-        same = refl;
+        refused = refl;
+        six = refl;
         within = h;
         upTo = omega arith;
-        six = refl;
       }
 
-  module _ (words : List ℕ) (at n i : ℕ) (s : Lining words at n i) where
-    module _ (c : Scanned) (l : i < count) (found : FoundAt t at (10 + i) 1 c) where
-      e : Finds (scan line (drop at t)) t (10 + i) c
-      e = rw (by-line 1 (λ z. omega arith)) at found
-
-      six-more : c .good ≡ true → c .n ≡ 6
-      six-more b = found-all line (drop at t) t (10 + i) c e b ∙ line-numbers
-
-      pub lining-room : c .good ≡ true → count ≤ 1024 → 6144 < length before → n + c .n ≤ length words
-      lining-room b h k = omega (arith, six-more b, s .six, s .same)
-
-      pub lining-more : c .good ≡ true → (m : ℕ) (after : List ℕ) → Grown n m words after (take (c .n) (c .numbers))
-          → length after ≡ length words → Lining after (c .at) m (i + 1)
-      lining-more b m after g k =
-          let q : scan line (drop at t) ≡ taken (take (c .n) (c .numbers)) (drop (c .at) t) = e .scanned ∙ pick-true _ _ _ b in
+  module _ (at answer place i : ℕ) (s : Checking at answer place i) where
+    module _ (c : Scanned) (l : i < count) (there : FoundAt t at (first + i) 0 c) where
+      pub checking-more : c .good ≡ true → (f : Found) → f ≡ firstRefused (found answer place) i (instructionAnswer true (insnAt (c .numbers) 0))
+          → Checking (c .at) (f .answer) (f .place) (i + 1)
+      unfolding firstRefused
+      checking-more b f e =
+          let six-more = take 6 (c .numbers) in
           record {
-            ns = s .ns ++ take (c .n) (c .numbers);
-            goes =
-                s .goes
-                ∙ rw (lines-more count i l, scan-then line (lines (count - (i + 1))) (drop at t) (take (c .n) (c .numbers)) (drop (c .at) t) q, line-lines)
-                (joined-joined (s .ns) (take (c .n) (c .numbers)) i 1 _);
-            grown = grown-more 0 n before words (s .ns) (s .grown) m after (take (c .n) (c .numbers)) g;
-            same = k ∙ s .same;
-            within = e .within;
+            ns = s .ns ++ six-more;
+            goes = s .goes ∙ rw (then-lines t at (first + i) c there b count i l) (joined-joined (s .ns) six-more i 1 _);
+            refused = e ∙ rw (← (same-insn (c .numbers))) (sym (scan-grows (s .ns) six-more i (found answer place) (s .six) (s .refused)));
+            six = omega (arith, s .six, length-append (s .ns) six-more, six-long t at (first + i) c there b);
+            within = line-found t at (first + i) c there .within;
             upTo = omega arith;
-            six = omega (arith, s .six, g .upTo, six-more b, length-take-le (c .n) (c .numbers) (e .held));
           }
 
-      pub lining-stop : c .good ≡ false → count ≤ 1024
-          → Scans (scan (lines count) (drop from t)) t 0 10 2048 before words
-          (record { good = false; at = c .at; line = c .line; n = n })
+      pub checking-stop : c .good ≡ false
+          → Checked (scan (lines count) (drop from t)) t first count (record { good = false; at = c .at; line = c .line; answer = answer; place = place })
       unfolding pick joined
-      lining-stop b h =
-          let q : scan line (drop at t) ≡ faulty (c .line - (10 + i)) = e .scanned ∙ pick-false _ _ _ b in
-          let k : i + (c .line - (10 + i)) ≡ c .line - 10 = omega (arith, e .onward) in
+      checking-stop b =
+          let e = line-found t at (first + i) c there in
+          let k : i + (c .line - (first + i)) ≡ c .line - first = omega (arith, e .onward) in
+          let n : length (s .ns) / 6 ≡ i = omega (arith, s .six) in
           record {
             ns = s .ns;
-            scanned =
-                s .goes
-                ∙ rw (lines-more count i l, scan-not line (lines (count - (i + 1))) (drop at t) (c .line - (10 + i)) q) (ap faulty k);
-            grown = s .grown;
+            taken-or = s .goes ∙ rw (no-line t at (first + i) c there b count i l) (ap faulty k);
+            refused = s .refused ∙ ap (scanList (s .ns) 0) (sym n);
+            sixes = λ z. absurd (no z);
             within = e .within;
             onward = omega (arith, e .onward);
-            few = omega (arith, e .few);
           }
+        where
+          no : false ≡ true → ⊥
+          no z = let o : _≡_ {A = ℕ} 0 1 = cc in omega arith
 
-    pub lining-end : count ≤ i → count ≤ 1024
-        → Scans (scan (lines count) (drop from t)) t 0 10 2048 before words (record { good = true; at = at; line = 10 + i; n = n })
+    pub checking-end : count ≤ i
+        → Checked (scan (lines count) (drop from t)) t first count (record { good = true; at = at; line = first + i; answer = answer; place = place })
     unfolding pick lines scan
-    lining-end l h =
-        let e : count - i ≡ 0 = omega arith in
+    checking-end l =
+        let z : count - i ≡ 0 = omega arith in
+        let n : length (s .ns) / 6 ≡ i = omega (arith, s .six) in
         record {
           ns = s .ns;
-          scanned = s .goes ∙ rw e (joined-end (s .ns) i (drop at t));
-          grown = s .grown;
+          taken-or = s .goes ∙ rw z (joined-end (s .ns) i (drop at t));
+          refused = s .refused ∙ ap (scanList (s .ns) 0) (sym n);
+          sixes = λ b. omega (arith, s .six, s .upTo);
           within = s .within;
           onward = omega arith;
-          few = omega (arith, s .upTo);
         }
+
+-- ---- the second time
+
+-- what was taken is whole
+pub taken-whole : (s : Scan) (ns rest : List ℕ) → s ≡ taken ns rest → Whole s × (numbersOf s ≡ ns)
+unfolding numbersOf
+taken-whole s ns rest e = (record { rest = rest; whole = rw e refl }, rw e refl)
+
+module _ (t : List ℕ) (from count : ℕ) (before : List ℕ) where
+  pub record Filling (list : List ℕ) (at n i : ℕ) : Type 0 where
+    pub done : List ℕ
+    pub left : List ℕ
+    pub rest : List ℕ
+    pub goes : numbersOf (scan (lines count) (drop from t)) ≡ done ++ left
+    pub still : scan (lines (count - i)) (drop at t) ≡ taken left rest
+    pub grown : Grown 0 n before list done
+    pub same : length list ≡ length before
+    pub six : n ≡ 6 * i
+    pub within : at ≤ length t
+    pub upTo : i ≤ count
+
+  pub filling-start : from ≤ length t → Whole (scan (lines count) (drop from t)) → Filling before from 0 0
+  filling-start h w =
+      record {
+        done = [];
+        left = numbersOf (scan (lines count) (drop from t));
+        rest = w .rest;
+        goes = refl;
+        still = rw (sub-zero count) (w .whole);
+        grown = grown-none 0 before;
+        same = refl;
+        six = refl;
+        within = h;
+        upTo = omega arith;
+      }
+
+  module _ (list : List ℕ) (at n i : ℕ) (s : Filling list at n i) where
+    pub filling-room : i < count → 6 * count ≤ length before → n + 6 ≤ length list
+    filling-room l h = omega (arith, s .six, s .same)
+
+    module _ (c : Scanned) (l : i < count) (there : FoundAt t at 1 0 c) where
+      -- a line that was in form still is
+      in-form : c .good ≡ true
+      in-form = go (c .good) refl
+        where
+          go : (b : Bool) → c .good ≡ b → c .good ≡ true
+          go true e = e
+          go false e = absurd (apart (s .left) (s .rest) (c .line - 1) (sym (no-line t at 1 c there e count i l) ∙ s .still))
+
+      pub filling-more : (m : ℕ) (after : List ℕ) → Grown n m list after (take 6 (c .numbers)) → length after ≡ length list
+          → Filling after (c .at) m (i + 1)
+      filling-more m after g k =
+          let six-more = take 6 (c .numbers) in
+          let j = joined-taken six-more 1 (scan (lines (count - (i + 1))) (drop (c .at) t)) (s .left) (s .rest) (sym (then-lines t at 1 c there in-form count i l) ∙ s .still) in
+          record {
+            done = s .done ++ six-more;
+            left = j .0;
+            rest = s .rest;
+            goes = s .goes ∙ ap (λ (x : List ℕ). s .done ++ x) (j .1 .1) ∙ sym (append-assoc (s .done) six-more (j .0));
+            still = j .1 .0;
+            grown = grown-more 0 n before list (s .done) (s .grown) m after six-more g;
+            same = k ∙ s .same;
+            six = omega (arith, s .six, g .upTo, six-long t at 1 c there in-form);
+            within = line-found t at 1 c there .within;
+            upTo = omega arith;
+          }
+
+    pub filling-end : count ≤ i → list ≡ inFront (numbersOf (scan (lines count) (drop from t))) before
+    unfolding lines scan
+    filling-end l =
+        let z : count - i ≡ 0 = omega arith in
+        let e : taken [] (drop at t) ≡ taken (s .left) (s .rest) = rw z at (s .still) in
+        let none : [] ≡ s .left = cc in
+        grown-whole n before list (s .done) (s .grown)
+        ∙ ap (λ (x : List ℕ). inFront x before) (sym (s .goes ∙ ap (λ (x : List ℕ). s .done ++ x) (sym none) ∙ append-nil (s .done)))
 
 -- ---- what a return says
 
-module _ (room : ℕ) (s : Settings) (list : List ℕ) (f : Found) (e : f ≡ listAnswer s list) where
-  pub read-list-refused : (f .answer ≡ 0 → ⊥) → readList room s list ≡ refuseRead (f .answer) (f .place) (s .cursor)
-  unfolding readList
-  read-list-refused h = rw (← e) (pick-false _ _ _ (ne-eqb (f .answer) 0 h))
+pub reads-refused : (g : Read) (before : List ℕ) (n place cursor : ℕ) (r : Reading) → g ≡ refuseRead n place cursor → r ≡ refusedReading n place cursor
+    → Reads g before before r
+reads-refused g before n place cursor r e h = rw e (record { told = h; put = refl })
 
-  pub read-list-short : f .answer ≡ 0 → room < length list → readList room s list ≡ refuseRead 11 0 0
-  unfolding readList
-  read-list-short h l = rw (← e) (pick-true _ _ _ (eq-eqb (f .answer) 0 h) ∙ pick-false _ _ _ (lt-leb (length list) room l))
+-- a reading into room of a size that is known
+pub reads-held : (g : Read) (t before after : List ℕ) (r : Reading) (size : ℕ) → length before ≡ size → g ≡ readText size t
+    → r ≡ readText (length before) t .reading → after ≡ inFront (readText (length before) t .list) before → Reads g before after r
+reads-held g t before after r size n e h k = rw (e, ← n) (record { told = h; put = k })
 
-  pub read-list-done : f .answer ≡ 0 → length list ≤ room
-      → readList room s list ≡ record { reading = acceptedReading s (length list); list = list }
-  unfolding readList
-  read-list-done h l = rw (← e) (pick-true _ _ _ (eq-eqb (f .answer) 0 h) ∙ pick-true _ _ _ (le-leb (length list) room l))
+-- a list in form has six words an instruction
+pub form-long : (t : List ℕ) (count : ℕ) → Whole (scan (lines count) t) → length (numbersOf (scan (lines count) t)) ≡ 6 * count
+form-long t count w = scan-whole (lines count) t _ (w .rest) (w .whole) .count ∙ lines-numbers count
 
-module _ (room : ℕ) (ns rest : List ℕ) where
-  pub read-many : 1024 < countIn ns → readHeader room (taken ns rest) ≡ refuseRead 5 0 (settingsOf ns .cursor)
+module _ (room : ℕ) (s : Settings) (list : List ℕ) where
+  pub read-list-unset : settingsGood s ≡ false → readList room s list ≡ refuseRead 3 0 (s .cursor)
+  unfolding readList
+  read-list-unset h = rw (list-unset s list h) (pick-false _ _ _ (ne-eqb 3 0 (λ e. omega arith)))
+
+  module _ (count : ℕ) (f : Found) (e : f ≡ scanned list) (l : length list ≡ 6 * count) (few : count ≤ listLimit) (h : settingsGood s ≡ true) where
+    is : f ≡ listAnswer s list
+    is = e ∙ sym (list-scanned s list h (omega arith) (omega arith))
+
+    pub read-list-refused : (f .answer ≡ 0 → ⊥) → readList room s list ≡ refuseRead (f .answer) (f .place) (s .cursor)
+    unfolding readList
+    read-list-refused n = rw (← is) (pick-false _ _ _ (ne-eqb (f .answer) 0 n))
+
+    pub read-list-short : f .answer ≡ 0 → room < 6 * count → readList room s list ≡ refuseRead 11 0 0
+    unfolding readList
+    read-list-short z k = rw (← is) (pick-true _ _ _ (eq-eqb (f .answer) 0 z) ∙ pick-false _ _ _ (lt-leb (length list) room (omega arith)))
+
+    pub read-list-filled : f .answer ≡ 0 → 6 * count ≤ room
+        → readList room s list ≡ record { reading = acceptedReading s (length list); list = list }
+    unfolding readList
+    read-list-filled z k = rw (← is) (pick-true _ _ _ (eq-eqb (f .answer) 0 z) ∙ pick-true _ _ _ (le-leb (length list) room (omega arith)))
+
+pub read-list-done : (room : ℕ) (s : Settings) (list : List ℕ) → listAnswer s list .answer ≡ 0 → length list ≤ room
+    → readList room s list ≡ record { reading = acceptedReading s (length list); list = list }
+unfolding readList
+read-list-done room s list h l = pick-true _ _ _ (eq-eqb (listAnswer s list .answer) 0 h) ∙ pick-true _ _ _ (le-leb (length list) room l)
+
+pub reads-filled : (room : ℕ) (s : Settings) (list before after : List ℕ) (n : ℕ) → n ≡ length list
+    → readList room s list ≡ record { reading = acceptedReading s (length list); list = list } → after ≡ inFront list before
+    → Reads (readList room s list) before after (record { settings = s; answer = 0; steps = 0; place = 0; cursor = s .cursor; length = n })
+unfolding acceptedReading
+reads-filled room s list before after n l e h = rw (e, l) (record { told = refl; put = h })
+
+module _ (f : Format) (room : ℕ) (ns rest : List ℕ) where
+  pub read-many : f .limit < countIn ns → readHeader f room (taken ns rest) ≡ refuseRead 5 0 (settingsOf ns .cursor)
   unfolding readHeader
-  read-many h = pick-false _ _ _ (lt-leb (countIn ns) 1024 h)
+  read-many h = pick-false _ _ _ (lt-leb (countIn ns) (f .limit) h)
 
-  module _ (few : countIn ns ≤ 1024) where
-    onward : readHeader room (taken ns rest) ≡ readRest room ns (scan (lines (countIn ns)) rest)
+  module _ (few : countIn ns ≤ f .limit) where
+    onward : readHeader f room (taken ns rest) ≡ readRest f room ns (scan (lines (countIn ns)) rest)
     unfolding readHeader
-    onward = pick-true _ _ _ (le-leb (countIn ns) 1024 few)
+    onward = pick-true _ _ _ (le-leb (countIn ns) (f .limit) few)
 
-    pub read-faulty : (k : ℕ) → scan (lines (countIn ns)) rest ≡ faulty k → readHeader room (taken ns rest) ≡ refuseRead 10 (10 + k) 0
+    pub read-faulty : (k : ℕ) → scan (lines (countIn ns)) rest ≡ faulty k → readHeader f room (taken ns rest) ≡ refuseRead 10 (firstLine f + k) 0
     unfolding readRest
     read-faulty k e = onward ∙ rw e
 
     module _ (list extra : List ℕ) (e : scan (lines (countIn ns)) rest ≡ taken list extra) where
-      pub read-extra : 0 < length extra → readHeader room (taken ns rest) ≡ refuseRead 10 (10 + countIn ns) 0
+      pub read-extra : 0 < length extra → readHeader f room (taken ns rest) ≡ refuseRead 10 (firstLine f + countIn ns) 0
       unfolding readRest
       read-extra h = onward ∙ rw e (pick-false _ _ _ (ne-eqb (length extra) 0 (λ z. omega arith)))
 
-      pub read-on : length extra ≡ 0 → readHeader room (taken ns rest) ≡ readList room (settingsOf ns) list
+      pub read-on : length extra ≡ 0 → readHeader f room (taken ns rest) ≡ readList room (settingsOf ns) list
       unfolding readRest
       read-on h = onward ∙ rw e (pick-true _ _ _ (eq-eqb (length extra) 0 h))
 
 module _ (room : ℕ) (t : List ℕ) where
-  pub read-long : 65536 < length t → readText room t ≡ refuseRead 11 0 0
+  pub read-long : textLimit < length t → readText room t ≡ refuseRead 11 0 0
   unfolding readText
-  read-long h = pick-false _ _ _ (lt-leb (length t) 65536 h)
+  read-long h = pick-false _ _ _ (lt-leb (length t) textLimit h)
 
-  module _ (h : length t ≤ 65536) where
-    begun : readText room t ≡ readHeader room (scan header t)
-    unfolding readText
-    begun = pick-true _ _ _ (le-leb (length t) 65536 h)
+  module _ (h : length t ≤ textLimit) where
+    begun : readText room t ≡ readHeader (formatOf t) room (scan (head (formatOf t)) t)
+    unfolding readText readAs
+    begun = pick-true _ _ _ (le-leb (length t) textLimit h)
 
-    pub read-unheaded : (k : ℕ) → scan header t ≡ faulty k → readText room t ≡ refuseRead 10 (1 + k) 0
+    pub read-unheaded : (k : ℕ) → scan (head (formatOf t)) t ≡ faulty k → readText room t ≡ refuseRead 10 (1 + k) 0
     unfolding readHeader
     read-unheaded k e = begun ∙ rw e
 
-    pub read-headed : (ns rest : List ℕ) → scan header t ≡ taken ns rest → readText room t ≡ readHeader room (taken ns rest)
+    pub read-headed : (ns rest : List ℕ) → scan (head (formatOf t)) t ≡ taken ns rest → readText room t ≡ readHeader (formatOf t) room (taken ns rest)
     read-headed ns rest e = begun ∙ rw e
 
 -- ---- the header's numbers, of which the code's room has one more
@@ -252,28 +363,30 @@ settings-take l =
       getD-take 9 l 7 0 (omega arith),
     )
 
-rest-same : (room : ℕ) (ns ms : List ℕ) (s : Scan) → settingsOf ns ≡ settingsOf ms → countIn ns ≡ countIn ms → readRest room ns s ≡ readRest room ms s
+rest-same : (f : Format) (room : ℕ) (ns ms : List ℕ) (s : Scan) → settingsOf ns ≡ settingsOf ms → countIn ns ≡ countIn ms
+    → readRest f room ns s ≡ readRest f room ms s
 unfolding readRest
-rest-same room ns ms (faulty k) e c = refl
-rest-same room ns ms (taken list extra) e c = rw (e, c)
+rest-same f room ns ms (faulty k) e c = refl
+rest-same f room ns ms (taken list extra) e c = rw (e, c)
 
-read-same : (room : ℕ) (ns ms rest : List ℕ) → settingsOf ns ≡ settingsOf ms → countIn ns ≡ countIn ms
-    → readHeader room (taken ns rest) ≡ readHeader room (taken ms rest)
+read-same : (f : Format) (room : ℕ) (ns ms rest : List ℕ) → settingsOf ns ≡ settingsOf ms → countIn ns ≡ countIn ms
+    → readHeader f room (taken ns rest) ≡ readHeader f room (taken ms rest)
 unfolding readHeader
-read-same room ns ms rest e c = rw (c, e, rest-same room ns ms (scan (lines (countIn ms)) rest) e c)
+read-same f room ns ms rest e c = rw (c, e, rest-same f room ns ms (scan (lines (countIn ms)) rest) e c)
 
-pub read-head : (room : ℕ) (t : List ℕ) (c : Scanned) → length t ≤ 65536 → FoundAt t 0 1 0 c → c .good ≡ true
-    → readText room t ≡ readHeader room (taken (c .numbers) (drop (c .at) t))
-read-head room t c h found b =
-    let e : Finds (scan header t) t 1 c = rw (by-header 0 refl) at found in
-    let k : c .n ≡ 9 = found-all header t t 1 c e b ∙ header-numbers in
-    let q : scan header t ≡ taken (take 9 (c .numbers)) (drop (c .at) t) = e .scanned ∙ pick-true _ _ _ b ∙ ap (λ (m : ℕ). taken (take m (c .numbers)) (drop (c .at) t)) k in
-    read-headed room t h (take 9 (c .numbers)) (drop (c .at) t) q
-    ∙ read-same room (take 9 (c .numbers)) (c .numbers) (drop (c .at) t) (settings-take (c .numbers)) (getD-take 9 (c .numbers) 8 0 (omega arith))
+module _ (room : ℕ) (t : List ℕ) (k : ℕ) (c : Scanned) (h : length t ≤ textLimit) (format : FormatOf t k) (there : FoundAt t 0 1 k c) where
+  head-found : Finds (scan (head (formatBy k)) t) t 1 c
+  head-found = rw (by-head k (λ z. omega (arith, format .0))) at there
 
-pub read-headless : (room : ℕ) (t : List ℕ) (c : Scanned) → length t ≤ 65536 → FoundAt t 0 1 0 c → c .good ≡ false
-    → readText room t ≡ refuseRead 10 (c .line) 0
-read-headless room t c h found b =
-    let e : Finds (scan header t) t 1 c = rw (by-header 0 refl) at found in
-    let k : 1 + (c .line - 1) ≡ c .line = omega (arith, e .onward) in
-    read-unheaded room t h (c .line - 1) (e .scanned ∙ pick-false _ _ _ b) ∙ ap (λ (m : ℕ). refuseRead 10 m 0) k
+  pub read-head : c .good ≡ true → readText room t ≡ readHeader (formatBy k) room (taken (c .numbers) (drop (c .at) t))
+  read-head b =
+      let n : c .n ≡ 9 = found-all (head (formatBy k)) t t 1 c head-found b ∙ by-sound k .nine in
+      let q : scan (head (formatBy k)) t ≡ taken (take 9 (c .numbers)) (drop (c .at) t) = head-found .scanned ∙ pick-true _ _ _ b ∙ ap (λ (m : ℕ). taken (take m (c .numbers)) (drop (c .at) t)) n in
+      read-headed room t h (take 9 (c .numbers)) (drop (c .at) t) (rw (format .1) q)
+      ∙ rw (format .1)
+      (read-same (formatBy k) room (take 9 (c .numbers)) (c .numbers) (drop (c .at) t) (settings-take (c .numbers)) (getD-take 9 (c .numbers) 8 0 (omega arith)))
+
+  pub read-headless : c .good ≡ false → readText room t ≡ refuseRead 10 (c .line) 0
+  read-headless b =
+      let n : 1 + (c .line - 1) ≡ c .line = omega (arith, head-found .onward) in
+      read-unheaded room t h (c .line - 1) (rw (format .1) (head-found .scanned ∙ pick-false _ _ _ b)) ∙ ap (λ (m : ℕ). refuseRead 10 m 0) n

@@ -50,7 +50,7 @@ abbrev pub answerBytes : List ℕ
 answerBytes = bytes "answer="
 
 abbrev pub outcomeBytes : List ℕ
-outcomeBytes = bytes "\nsteps=\u{4}\nplace=\u{4}\ncursor=\u{4}\n"
+outcomeBytes = bytes "\nsteps=\u{5}\nplace=\u{5}\ncursor=\u{4}\n"
 
 abbrev pub changeBytes : List ℕ
 changeBytes = bytes "reg=\u{2} lane=\u{2} word=\u{18}\n"
@@ -75,7 +75,7 @@ pub answer-widest : widest (formOf answerBytes) ≡ 7
 unfolding widest widestItem formOf itemOf bytes spell pick
 answer-widest = refl
 
-pub outcome-widest : widest (formOf outcomeBytes) ≡ 35
+pub outcome-widest : widest (formOf outcomeBytes) ≡ 37
 unfolding widest widestItem formOf itemOf bytes spell pick
 outcome-widest = refl
 
@@ -100,7 +100,7 @@ pub outcome-grows : (answer steps place cursor w at r : ℕ) (before one two aft
     → Renders (render (formOf answerBytes) (answer ∷ steps ∷ place ∷ cursor ∷ [])) 0 (widest (formOf answerBytes)) before one at
     → Grown at (at + w) one two (digits 10 w answer)
     → Renders (render (formOf outcomeBytes) (steps ∷ place ∷ cursor ∷ [])) (at + w) (widest (formOf outcomeBytes)) two after r
-    → Renders (outcomeLines answer steps place cursor) 0 52 before after r
+    → Renders (outcomeLines answer steps place cursor) 0 54 before after r
 outcome-grows answer steps place cursor w at r before one two after e h a b c =
     record {
       grown =
@@ -156,7 +156,7 @@ module _ (b a : List ℕ) (place : ℕ) (before : List ℕ) where
 -- ---- the whole
 
 module _ (answer steps place cursor : ℕ) (b a before page : List ℕ) (at : ℕ)
-    (s : Renders (outcomeLines answer steps place cursor) 0 52 before page at) where
+    (s : Renders (outcomeLines answer steps place cursor) 0 54 before page at) where
   pub report-done : (after : List ℕ) (r : ℕ) → answer ≡ 0 → Renders (changes b a 384) at 11136 page after r
       → Grown 0 r before after (report answer steps place cursor b a .bytes)
   unfolding report

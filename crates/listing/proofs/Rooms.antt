@@ -5,41 +5,44 @@ use native.Mathlib.Numerals.{add-one}
 use native.Mathlib.Nat.{add-zero, zero-add, not-suc-le-zero}
 use native.Mathlib.Omega.{arith}
 use mathlib.Core.List.{List, [], _∷_, _++_, append-nil, append-assoc}
-use lib.ListN.{length, getD, take, drop, set, length-append, length-take, length-drop}
-use lib.Seq.{paste-suc, take-length, take-suc, take-suc-set, take-set-le, length-take-le}
+use lib.ListN.{length, getD, take, drop, set, length-append, length-take, length-drop, take-append-drop}
+use lib.Seq.{paste-suc, take-length, take-suc, take-suc-set, take-set-le, length-take-le, drop-drop, drop-set-lt}
 use Rattle.listing.specs.Forms.{glyph, digits, nameOf}
 use Rattle.listing.specs.PrivatePlaces.{Grown}
+use Rattle.listing.specs.Listing.{inFront}
 
 pub grown-none : (p : ℕ) (before : List ℕ) → Grown p p before before []
-grown-none p before = record { front = sym (append-nil (take p before)); upTo = sym (add-zero p) }
+grown-none p before = record { front = sym (append-nil (take p before)); back = refl; upTo = sym (add-zero p) }
 
 module _ (p n : ℕ) (before after xs : List ℕ) (g : Grown p n before after xs) where
+  -- what is past a longer front is as before too
+  past : (k : ℕ) → drop (n + k) after ≡ drop (n + k) before
+  past k = sym (drop-drop k n after) ∙ ap (drop k) (g .back) ∙ drop-drop k n before
+
   pub grown-store : (v : ℕ) → n < length after → Grown p (n + 1) before (set after n v) (xs ++ (v ∷ []))
   grown-store v h =
       record {
+        back = drop-set-lt (n + 1) after n v (omega arith) ∙ past 1;
         front = rw (add-one n) (take-suc-set after n v h ∙ ap (λ (l : List ℕ). l ++ (v ∷ [])) (g .front) ∙ append-assoc (take p before) xs (v ∷ []));
         upTo = omega (arith, g .upTo, length-append xs (v ∷ []));
       }
-
-  -- a store past the end leaves what has grown
-  pub grown-past : (v : ℕ) → Grown p n before (set after n v) xs
-  grown-past v = record { front = take-set-le n after n v (omega arith) ∙ g .front; upTo = g .upTo }
 
   pub grown-more : (m : ℕ) (last ys : List ℕ) → Grown n m after last ys → Grown p m before last (xs ++ ys)
   grown-more m last ys k =
       record {
         front = k .front ∙ ap (λ (l : List ℕ). l ++ ys) (g .front) ∙ append-assoc (take p before) xs ys;
+        back = k .back ∙ rw (k .upTo) (past (length ys));
         upTo = omega (arith, g .upTo, k .upTo, length-append xs ys);
       }
 
-  -- where a store counts, or does not
-  pub grown-some : (v k : ℕ) → n < length after → k ≤ 1 → Grown p (n + k) before (set after n v) (xs ++ take k (v ∷ []))
-  grown-some v zero h l = rw (add-zero n, append-nil xs) (grown-past v)
-  grown-some v (suc zero) h l = grown-store v h
-  grown-some v (suc (suc k)) h l = absurd (no l)
-    where
-      no : suc (suc k) ≤ 1 → ⊥
-      no z = omega arith
+-- a store after a front, which counts or does not
+pub front-some : (l : List ℕ) (n v k : ℕ) → n < length l → k ≤ 1 → take (n + k) (set l n v) ≡ take n l ++ take k (v ∷ [])
+front-some l n v zero h i = rw (add-zero n, append-nil (take n l)) (take-set-le n l n v (omega arith))
+front-some l n v (suc zero) h i = rw (add-one n) (take-suc-set l n v h)
+front-some l n v (suc (suc k)) h i = absurd (no i)
+  where
+    no : suc (suc k) ≤ 1 → ⊥
+    no z = omega arith
 
 -- ---- copies
 
@@ -88,6 +91,12 @@ name-whole op at i n before after e h k g =
     let t : take i (nameOf op) ≡ nameOf op = ap (λ (j : ℕ). take j (nameOf op)) (q ∙ e) ∙ take-length (nameOf op) in
     rw (← q) (rw t at g)
 
--- what has grown from the front is the front
+-- what has grown from the front is in front
+pub grown-whole : (n : ℕ) (before after xs : List ℕ) → Grown 0 n before after xs → after ≡ inFront xs before
+grown-whole n before after xs g =
+    let e : n ≡ length xs = omega (arith, g .upTo) in
+    sym (take-append-drop n after) ∙ ap (λ (l : List ℕ). l ++ drop n after) (g .front)
+    ∙ ap (λ (l : List ℕ). xs ++ l) (g .back ∙ ap (λ (k : ℕ). drop k before) e)
+
 pub grown-front : (n : ℕ) (before after xs : List ℕ) → Grown 0 n before after xs → (take n after ≡ xs) × (n ≤ length after)
 grown-front n before after xs g = (g .front, omega (arith, g .upTo, sym (length-take n after) ∙ ap length (g .front)))

@@ -1,7 +1,7 @@
 -- How the code's walk over positions meets the scan of a text. Assumes nothing.
 use mathlib.Core.Path.{_≡_, refl, sym, ap, _∙_}
 use Prim.Native.Nat.{ℕ, suc, _+_, _*_, _^_, _<_, _≤_}
-use native.Mathlib.Nat.{pow-suc, pow-le-pow-right}
+use native.Mathlib.Nat.{pow-suc, pow-le-pow-right, zero-add}
 use native.Mathlib.Numerals.{add-one}
 use native.Mathlib.Decide.{decLt}
 use native.Mathlib.Omega.{arith}
@@ -105,6 +105,19 @@ begins-stops p t at i l e = rw (drop-cons p i 0 l) (go (decLt (at + i) (length t
 pub begins-ends : (p t : List ℕ) (at i : ℕ) → length p ≤ i → begins (drop i p) (drop (at + i) t) ≡ true
 unfolding begins
 begins-ends p t at i l = rw (drop-of-length-le p {i = i} l)
+
+-- the same from the front on
+module _ (p t : List ℕ) (i : ℕ) where
+  pub begins-from : i < length p → 0 < getD p i 0 → getD t i 0 ≡ getD p i 0 → begins (drop i p) (drop i t) ≡ begins (drop (i + 1) p) (drop (i + 1) t)
+  begins-from l z e =
+      let next : 0 + (i + 1) ≡ i + 1 = omega arith in
+      rw (zero-add i, next) at (begins-more p t 0 i l z (rw (zero-add i) e))
+
+  pub begins-not : i < length p → (getD t i 0 ≡ getD p i 0 → ⊥) → begins (drop i p) (drop i t) ≡ false
+  begins-not l e = rw (zero-add i) at (begins-stops p t 0 i l (rw (zero-add i) e))
+
+  pub begins-all : length p ≤ i → begins (drop i p) (drop i t) ≡ true
+  begins-all l = rw (zero-add i) at (begins-ends p t 0 i l)
 
 pub name-missing : (t : List ℕ) (at op : ℕ) → op ≡ opOf 16 (drop at t) → op ≡ 0 → scanName (drop at t) ≡ faulty 0
 unfolding scanName

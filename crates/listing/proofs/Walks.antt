@@ -1,5 +1,5 @@
 -- The loops that scan and that render a form: what is known each time their tests are reached. Assumes nothing.
-use mathlib.Core.Path.{_≡_, refl, sym, _∙_}
+use mathlib.Core.Path.{_≡_, refl, sym, ap, _∙_}
 use Prim.Native.Nat.{ℕ, zero, suc, _+_, _-_, _<_, _≤_}
 use native.Mathlib.Nat.{add-zero}
 use native.Mathlib.Omega.{arith}
@@ -16,7 +16,7 @@ use Rattle.listing.specs.Forms.{Item, lit, dec, hex, name, render, rende
 use Rattle.listing.specs.PrivatePlaces.{itemOf, formOf, numbers, widest, widestItem, Grown, Gets, Finds, Renders}
 use Rattle.listing.proofs.Items.{ends-byte, form-cons}
 use Rattle.listing.proofs.Joins.{joined-none, joined-joined, joined-end, joined-fault, scan-item, scan-fault}
-use Rattle.listing.proofs.Rooms.{grown-none, grown-some, grown-more}
+use Rattle.listing.proofs.Rooms.{grown-none, front-some, grown-more}
 use Rattle.listing.proofs.Digits.{length-digits}
 use Rattle.listing.proofs.Names.{length-names}
 use Rattle.listing.proofs.Trips.{item-taken, takes-one}
@@ -88,11 +88,10 @@ module _ (form t : List ℕ) (from first : ℕ) where
           → Scanning (set out n (g .value)) (f + 1) (g .at) (line + boolByte (eqb (getD form f 0) 10)) (n + g .count)
       scanning-more b =
           let k : line - first + ends (itemOf (getD form f 0)) ≡ line + boolByte (eqb (getD form f 0) 10) - first = omega (arith, ends-byte (getD form f 0), s .onward) in
-          let w = grown-some n n out out [] (grown-none n out) (g .value) (g .count) room-for (e .one) in
           record {
             goes =
                 s .goes
-                ∙ rw (form-cons form f l, scan-item _ (formOf (drop (f + 1) form)) (drop at t) _ _ (some b), ← k, w .front)
+                ∙ rw (form-cons form f l, scan-item _ (formOf (drop (f + 1) form)) (drop at t) _ _ (some b), ← k, front-some out n (g .value) (g .count) room-for (e .one))
                 (joined-joined (take n out) _ (line - first) _ _);
             ten = length-set out n (g .value) ∙ s .ten;
             within = e .within;
@@ -123,6 +122,31 @@ item-widest (dec w) v = omega (arith, length-digits 10 w v)
 item-widest (hex w) v = omega (arith, length-digits 16 w v)
 item-widest name v = length-names v
 
+pub render-widest : (f : Form) (ns : List ℕ) → length (render f ns) ≤ widest f
+unfolding render widest
+render-widest [] ns = omega arith
+render-widest (i ∷ f) ns =
+    omega
+    (arith, length-append (renderItem i (getD ns 0 0)) (render f (drop (takes i) ns)), item-widest i (getD ns 0 0), render-widest f (drop (takes i) ns))
+
+-- a form fits where its widest does
+pub render-room : (f : Form) (ns : List ℕ) (place size w : ℕ) → widest f ≡ w → place + w ≤ size → place + length (render f ns) ≤ size
+render-room f ns place size w e h = omega (arith, render-widest f ns)
+
+-- the room that an item asks for
+module _ (i : Item) (at v size : ℕ) where
+  pub room-dec : {w : ℕ} → i ≡ dec w → at + length (renderItem i v) ≤ size → at + w ≤ size
+  unfolding renderItem
+  room-dec {w} e h = omega (arith, length-digits 10 w v, ap (λ (x : Item). length (renderItem x v)) e)
+
+  pub room-hex : {w : ℕ} → i ≡ hex w → at + length (renderItem i v) ≤ size → at + w ≤ size
+  unfolding renderItem
+  room-hex {w} e h = omega (arith, length-digits 16 w v, ap (λ (x : Item). length (renderItem x v)) e)
+
+  pub room-lit : {c : ℕ} → i ≡ lit c → at + length (renderItem i v) ≤ size → at < size
+  unfolding renderItem
+  room-lit {c} e h = omega (arith, ap (λ (x : Item). length (renderItem x v)) e)
+
 module _ (form values : List ℕ) (from place : ℕ) (before : List ℕ) where
   pub record Rendering (out : List ℕ) (f n at : ℕ) : Type 0 where
     pub bs : List ℕ
@@ -131,7 +155,6 @@ module _ (form values : List ℕ) (from place : ℕ) (before : List ℕ) where
     pub same : length out ≡ length before
     pub inForm : f ≤ length form
     pub few : n ≤ from + f
-    pub room : at + widest (formOf (drop f form)) ≤ place + widest (formOf form)
 
   pub rendering-start : Rendering before 0 from place
   rendering-start =
@@ -142,24 +165,24 @@ module _ (form values : List ℕ) (from place : ℕ) (before : List ℕ) where
         same = refl;
         inForm = omega arith;
         few = omega arith;
-        room = omega arith;
       }
 
   module _ (out : List ℕ) (f n at : ℕ) (s : Rendering out f n at) where
     module _ (l : f < length form) where
-      widest-cons : widest (formOf (drop f form)) ≡ widestItem (itemOf (getD form f 0)) + widest (formOf (drop (f + 1) form))
-      unfolding widest
-      widest-cons = rw (form-cons form f l)
-
-      pub room-there : place + widest (formOf form) ≤ length before → at + widestItem (itemOf (getD form f 0)) ≤ length out
-      room-there h = omega (arith, s .room, s .same, widest-cons)
-
       rendered : render (formOf (drop f form)) (drop n values)
           ≡ renderItem (itemOf (getD form f 0)) (getD values n 0)
           ++ render (formOf (drop (f + 1) form)) (drop (n + takes (itemOf (getD form f 0))) values)
       unfolding render
       rendered =
           rw (form-cons form f l, getD-drop n values 0 0, add-zero n, drop-drop (takes (itemOf (getD form f 0))) n values)
+
+      pub room-there : (v : ℕ) → v ≡ getD values n 0 → place + length (render (formOf form) (drop from values)) ≤ length before
+          → at + length (renderItem (itemOf (getD form f 0)) v) ≤ length out
+      room-there v e h =
+          let x = renderItem (itemOf (getD form f 0)) (getD values n 0) in
+          let y = render (formOf (drop (f + 1) form)) (drop (n + takes (itemOf (getD form f 0))) values) in
+          let all : length (render (formOf form) (drop from values)) ≡ length (s .bs) + (length x + length y) = ap length (s .goes) ∙ length-append (s .bs) _ ∙ ap (λ (k : ℕ). length (s .bs) + k) (ap length rendered ∙ length-append x y) in
+          rw e (omega (arith, all, s .same, s .grown .upTo))
 
       pub rendering-more : (v at′ k : ℕ) (out′ : List ℕ) → v ≡ getD values n 0 → k ≡ takes (itemOf (getD form f 0))
           → Grown at at′ out out′ (renderItem (itemOf (getD form f 0)) v) → length out′ ≡ length out
@@ -172,7 +195,6 @@ module _ (form values : List ℕ) (from place : ℕ) (before : List ℕ) where
             same = q ∙ s .same;
             inForm = omega arith;
             few = omega (arith, s .few, takes-one (itemOf (getD form f 0)));
-            room = omega (arith, s .room, widest-cons, g .upTo, item-widest (itemOf (getD form f 0)) v);
           }
 
     pub rendering-end : length form ≤ f
@@ -182,12 +204,5 @@ module _ (form values : List ℕ) (from place : ℕ) (before : List ℕ) where
         let e : render (formOf form) (drop from values) ≡ s .bs = s .goes ∙ rw (drop-of-length-le form {i = f} l) (append-nil (s .bs)) in
         record {
           grown = rw e (s .grown);
-          within = omega (arith, s .room);
+          within = omega (arith, s .grown .upTo, sym (ap length e), render-widest (formOf form) (drop from values));
         }
-
-pub render-widest : (f : Form) (ns : List ℕ) → length (render f ns) ≤ widest f
-unfolding render widest
-render-widest [] ns = omega arith
-render-widest (i ∷ f) ns =
-    omega
-    (arith, length-append (renderItem i (getD ns 0 0)) (render f (drop (takes i) ns)), item-widest i (getD ns 0 0), render-widest f (drop (takes i) ns))

@@ -135,6 +135,11 @@ ends (dec w) = 0
 ends (hex w) = 0
 ends name = 0
 
+-- How many lines a form ends.
+unfoldable pub linesIn : Form → ℕ
+linesIn [] = 0
+linesIn (i ∷ f) = ends i + linesIn f
+
 -- A whole form, item by item.
 unfoldable pub scan : Form → List ℕ → Scan
 scan [] t = taken [] t

@@ -1,11 +1,13 @@
 -- Pass over this page with document 01 in the other hand: it is the vocabulary of private functions, and no promise rests on it. It has
 -- how the code says what a scan finds and what a render writes: forms as byte strings, positions in a text, lists that grow in lent room.
-use Prim.Native.Nat.{ℕ, _+_, _-_, _≤_}
+use Prim.Native.Nat.{ℕ, _+_, _-_, _*_, _≤_}
 use mathlib.Core.Path.{_≡_}
+use mathlib.Core.Bool.{true}
 use mathlib.Core.List.{List, [], _∷_, _++_, map}
 use lib.ListN.{length, take, drop}
 use lib.Dec.{ltb, leb, eqb}
 use Rattle.lane.specs.Words.{pick}
+use Rattle.runner.specs.Checks.{found, scanned}
 use Rattle.listing.specs.declared.Got.{Got}
 use Rattle.listing.specs.declared.Scanned.{Scanned}
 use Rattle.listing.specs.declared.Rest.{Rest}
@@ -34,9 +36,10 @@ unfoldable pub numbers : Form → ℕ
 numbers [] = 0
 numbers (i ∷ f) = takes i + numbers f
 
--- The first n of `after` are the first p of `before`, and then xs.
+-- The first n of `after` are the first p of `before`, and then xs; what is past them is as before.
 pub record Grown (p n : ℕ) (before after xs : List ℕ) : Type 0 where
   pub front : take n after ≡ take p before ++ xs
+  pub back : drop n after ≡ drop n before
   pub upTo : n ≡ p + length xs
 
 -- An item was scanned in a text, up to a position.
@@ -53,15 +56,23 @@ pub record Finds (s : Scan) (t : List ℕ) (first : ℕ) (r : Scanned) : Type 0 
   pub onward : first ≤ r .line
   pub few : r .line ≤ first + 100
 
--- A form of at most `most` lines was scanned from line `first` on, up to a position and a line; its numbers, or some of those before its
--- first fault, went into lent room from p on.
-pub record Scans (s : Scan) (t : List ℕ) (p first most : ℕ) (before after : List ℕ) (r : Rest) : Type 0 where
+-- So many instruction lines were scanned from line `first` on, up to a position and a line, and of the instructions the first refused was found.
+pub record Checked (s : Scan) (t : List ℕ) (first count : ℕ) (r : Rest) : Type 0 where
   pub ns : List ℕ
-  pub scanned : s ≡ pick (r .good) (taken ns (drop (r .at) t)) (faulty (r .line - first))
-  pub grown : Grown p (r .n) before after ns
+  pub taken-or : s ≡ pick (r .good) (taken ns (drop (r .at) t)) (faulty (r .line - first))
+  pub refused : found (r .answer) (r .place) ≡ scanned ns
+  pub sixes : r .good ≡ true → length ns ≡ 6 * count
   pub within : r .at ≤ length t
   pub onward : first ≤ r .line
-  pub few : r .line ≤ first + most
+
+-- The numbers of a scan, none where it is faulty; and that it is not.
+unfoldable pub numbersOf : Scan → List ℕ
+numbersOf (taken ns t) = ns
+numbersOf (faulty k) = []
+
+pub record Whole (s : Scan) : Type 0 where
+  pub rest : List ℕ
+  pub whole : s ≡ taken (numbersOf s) rest
 
 -- Bytes were written into lent room from p on, no more than a form can need.
 pub record Renders (bs : List ℕ) (p most : ℕ) (before after : List ℕ) (r : ℕ) : Type 0 where

@@ -17,9 +17,9 @@ widthIn (suc k) n = pick (leb (10 ^ k) n) (suc k) (widthIn k n)
 abbrev pub widthOf : ℕ → ℕ
 widthOf n = widthIn 10 n
 
--- The four lines of an outcome, the answer with w digits and "4 elsewhere".
+-- The four lines of an outcome, the answer with w digits, "every result's steps and place .. five digits" (document 02, M-105) and "4 elsewhere".
 unfoldable pub outcomeForm : ℕ → Form
-outcomeForm w = numberLine "answer=" w ++ (numberLine "steps=" 4 ++ (numberLine "place=" 4 ++ numberLine "cursor=" 4))
+outcomeForm w = numberLine "answer=" w ++ (numberLine "steps=" 5 ++ (numberLine "place=" 5 ++ numberLine "cursor=" 4))
 
 abbrev pub outcomeLines : ℕ → ℕ → ℕ → ℕ → List ℕ
 outcomeLines answer steps place cursor = render (outcomeForm (widthOf answer)) (answer ∷ steps ∷ place ∷ cursor ∷ [])

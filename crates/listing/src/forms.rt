@@ -252,9 +252,19 @@ pub(crate) fn put_number(out: &mut [u8], at: usize, base: u32, w: usize, n: u32)
     }
 }
 
+// How many bytes the name of any number takes, those past 16 having none.
+pub(crate) fn name_length(op: u32) -> usize
+    ensures { λ r. ⌜ (r ≡ length (Forms.nameOf op)) × (r ≤ 7) ⌝ }
+{
+    if op < 17 {
+        return NAME_LENGTHS[op as usize];
+    }
+    0
+}
+
 // The name of `op`.
 fn put_name(out: &mut [u8], at: usize, op: usize) -> usize
-    requires { ⌜ (at + 7 ≤ length (now out)) × (op < 17) ⌝ }
+    requires { ⌜ (at + length (Forms.nameOf op) ≤ length (now out)) × (op < 17) ⌝ }
     ensures { λ r. ⌜ Places.Grown at r (now (out .entry)) (now (out .exit)) (Forms.nameOf op) ⌝ }
 {
     let n = NAME_LENGTHS[op];
@@ -268,7 +278,7 @@ fn put_name(out: &mut [u8], at: usize, op: usize) -> usize
 
 // The name of any number, of which those past 16 have none.
 fn put_op(out: &mut [u8], at: usize, op: u32) -> usize
-    requires { ⌜ at + 7 ≤ length (now out) ⌝ }
+    requires { ⌜ at + length (Forms.nameOf op) ≤ length (now out) ⌝ }
     ensures { λ r. ⌜ Places.Grown at r (now (out .entry)) (now (out .exit)) (Forms.nameOf op) ⌝ }
 {
     if op < 17 {
@@ -288,7 +298,7 @@ fn put_byte(out: &mut [u8], at: usize, x: u8) -> usize
 
 // An item of a form, with its number.
 fn put_item(out: &mut [u8], at: usize, x: u8, value: u32) -> usize
-    requires { ⌜ at + Places.widestItem (Places.itemOf x) ≤ length (now out) ⌝ }
+    requires { ⌜ at + length (Forms.renderItem (Places.itemOf x) value) ≤ length (now out) ⌝ }
     ensures { λ r. ⌜ Places.Grown at r (now (out .entry)) (now (out .exit)) (Forms.renderItem (Places.itemOf x) value) ⌝ }
 {
     if x < 10 {
@@ -316,7 +326,7 @@ pub(crate) fn render(
     out: &mut [u8],
     place: usize,
 ) -> usize
-    requires { ⌜ (from ≤ length (now values)) × (place + Places.widest (Places.formOf (now form)) ≤ length (now out)) ⌝ }
+    requires { ⌜ (from ≤ length (now values)) × (place + length (Forms.render (Places.formOf (now form)) (drop from (now values))) ≤ length (now out)) ⌝ }
     ensures { λ r. ⌜ Places.Renders (Forms.render (Places.formOf (now (form .entry))) (drop from (now (values .entry)))) place (Places.widest (Places.formOf (now (form .entry)))) (now (out .entry)) (now (out .exit)) r ⌝ }
 {
     let mut f: usize = 0;
@@ -333,18 +343,6 @@ pub(crate) fn render(
 
 // The first `n` bytes of a page, to the front of lent room.
 pub(crate) fn copy_bytes(page: &[u8], n: usize, room: &mut [u8])
-    requires { ⌜ (n ≤ length (now page)) × (n ≤ length (now room)) ⌝ }
-    ensures { λ _. ⌜ now (room .exit) ≡ take n (now (page .entry)) ++ drop n (now (room .entry)) ⌝ }
-{
-    let mut i: usize = 0;
-    while i < n {
-        room[i] = page[i];
-        i += 1;
-    }
-}
-
-// The first `n` words of a page, to the front of lent room.
-pub(crate) fn copy_words(page: &[u32], n: usize, room: &mut [u32])
     requires { ⌜ (n ≤ length (now page)) × (n ≤ length (now room)) ⌝ }
     ensures { λ _. ⌜ now (room .exit) ≡ take n (now (page .entry)) ++ drop n (now (room .entry)) ⌝ }
 {

@@ -1,17 +1,16 @@
 // One reader that keeps hold of the lent text and its line number: a struct with the text, a position and a line, placed once for a line or
 // for the header, and thin functions over it. The work is `scan_at`'s, and callers use `read_form`: the parameters of both are plain.
-use crate::HEADER;
+use crate::HEAD_2;
 use crate::LINE;
+use crate::OLD_HEAD;
 use crate::Scanned;
+use crate::formats::WRITTEN;
 use crate::forms::scan;
 ghost use mathlib.Core.Path.{_≡_};
 ghost use Rattle.listing.specs.PrivateReader as Held;
 
-// The number of the header among the listing's forms.
-pub(crate) const HEADER_FORM: u8 = 0;
-
-// The number of an instruction line.
-pub(crate) const LINE_FORM: u8 = 1;
+// The number of an instruction line among the listing's forms; the others are the heads of the formats, by their numbers.
+pub(crate) const LINE_FORM: u8 = 0;
 
 pub(crate) struct Reader<'a> {
     text: &'a [u8],
@@ -32,10 +31,13 @@ fn scan_at(text: &[u8], at: usize, line: u32, form: u8) -> Scanned
             numbers: [0; 10],
         };
     }
-    if form == HEADER_FORM {
-        return scan(text, at, line, &HEADER);
+    if form == LINE_FORM {
+        return scan(text, at, line, &LINE);
     }
-    scan(text, at, line, &LINE)
+    if form == WRITTEN {
+        return scan(text, at, line, &HEAD_2);
+    }
+    scan(text, at, line, &OLD_HEAD)
 }
 
 // A reader that stands at a position and a line.

@@ -6,6 +6,8 @@
 mod forms;
 // The reader that keeps hold of the text.
 mod hold;
+// The table of formats.
+mod formats;
 // Text to settings and list.
 pub mod reader;
 // Settings and list to text.
@@ -59,16 +61,20 @@ struct Scanned {
 }
 
 // The rest of a text, its instruction lines: whether all are there, the position and the line after them or else those of the fault, and
-// where their words in lent room end.
+// the first refused instruction's number and index, or 0 and 0.
 struct Rest {
     good: bool,
     at: usize,
     line: u32,
-    n: usize,
+    answer: u32,
+    place: u32,
 }
 
-// The listing's forms, by the rule of `forms`.
-const HEADER: [u8; 83] =
+// The listing's forms, by the rule of `forms`: what stands before the instruction lines, format by format, and an instruction line.
+const OLD_HEAD: [u8; 83] =
     *b"edition=\x01\nsrcb=\x01\noffset=\x04\ncursor=\x04\nstride0=\x04\nstride1=\x04\nstride2=\x04\nstride3=\x04\ncount=\x04\n";
+
+const HEAD_2: [u8; 92] =
+    *b"format=2\nedition=\x01\nsrcb=\x01\noffset=\x04\ncursor=\x04\nstride0=\x04\nstride1=\x04\nstride2=\x04\nstride3=\x04\ncount=\x05\n";
 
 const LINE: [u8; 31] = *b"op=\x0Eimm=\x05 vb=\x02 vc=\x02 vd=\x02 mod=\x02\n";

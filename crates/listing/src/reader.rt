@@ -1,22 +1,30 @@
-// Text to settings and list: line by line through the reader into local arrays, and the lent room only after every check.
+// Text to settings and list, line by line through the reader: once over the text for every check, and once more into the lent room.
 use crate::Reading;
 use crate::Rest;
-use crate::forms::copy_words;
+use crate::formats::first_line;
+use crate::formats::format_of;
+use crate::formats::limit_of;
 use crate::forms::word_at;
-use crate::hold::HEADER_FORM;
 use crate::hold::LINE_FORM;
 use crate::hold::read_form;
+use lane::Insn;
 use lane::Settings;
-use runner::checks::list_answer;
+use lane::refuse::settings_good;
+use runner::Found;
+use runner::checks::answer_of;
 ghost use mathlib.Core.Path.{_≡_};
-ghost use Prim.Native.Nat.{_+_, _<_, _≤_};
+ghost use mathlib.Core.Bool.{true};
+ghost use Prim.Native.Nat.{_+_, _*_, _<_, _≤_};
 ghost use lib.ListN.{length, take, drop};
+ghost use Rattle.lane.specs.Refusals.{instructionAnswer};
+ghost use Rattle.runner.specs.Checks.{insnAt, found, scanned, listLimit};
 ghost use Rattle.listing.specs.Forms as Forms;
 ghost use Rattle.listing.specs.PrivatePlaces as Places;
+ghost use Rattle.listing.specs.PrivateReader as Held;
 ghost use Rattle.listing.specs.Listing as Listing;
 
 // A refusal.
-fn refused(answer: u32, place: u32, cursor: u32) -> Reading
+pub(crate) fn refused(answer: u32, place: u32, cursor: u32) -> Reading
     ensures { λ r. ⌜ r ≡ Listing.refusedReading answer place cursor ⌝ }
 {
     Reading {
@@ -67,18 +75,44 @@ fn put_words(words: &mut [u32], place: usize, count: usize, numbers: &[u32]) -> 
     place + count
 }
 
-// The instruction lines.
-fn lines(text: &[u8], from: usize, count: u32, words: &mut [u32]) -> Rest
-    requires { ⌜ (from ≤ length (now text)) × (count ≤ 1024) × (6144 < length (now words)) ⌝ }
-    ensures { λ r. ⌜ Places.Scans (Forms.scan (Listing.lines count) (drop from (now (text .entry)))) (now (text .entry)) 0 10 2048 (now (words .entry)) (now (words .exit)) r ⌝ }
+// The first refused instruction, `k` being met after those before it.
+fn first_refused(answer: u32, place: u32, k: u32, numbers: &[u32; 10]) -> Found
+    ensures { λ r. ⌜ r ≡ Held.firstRefused (found answer place) k (instructionAnswer true (insnAt (now (numbers .entry)) 0)) ⌝ }
+{
+    if answer == 0 {
+        let next = answer_of(Insn {
+            op: numbers[0],
+            imm: numbers[1],
+            vb: numbers[2],
+            vc: numbers[3],
+            vd: numbers[4],
+            md: numbers[5],
+        });
+        if next != 0 {
+            return Found {
+                answer: next,
+                place: k,
+            };
+        }
+    }
+    Found { answer, place }
+}
+
+// The instruction lines from line `first` on, their form and their fields.
+fn check_lines(text: &[u8], from: usize, first: u32, count: u32) -> Rest
+    requires { ⌜ (from ≤ length (now text)) × (first ≤ 100) × (count ≤ listLimit) ⌝ }
+    ensures { λ r. ⌜ Places.Checked (Forms.scan (Listing.lines count) (drop from (now (text .entry)))) (now (text .entry)) first count r ⌝ }
 {
     let mut at = from;
-    let mut n: usize = 0;
+    let mut answer: u32 = 0;
+    let mut place: u32 = 0;
     let mut i: u32 = 0;
     while i < count {
-        let c = read_form(text, at, 10 + i, LINE_FORM);
+        let c = read_form(text, at, first + i, LINE_FORM);
         if c.good {
-            n = put_words(words, n, c.n, &c.numbers);
+            let found = first_refused(answer, place, i, &c.numbers);
+            answer = found.answer;
+            place = found.place;
             at = c.at;
             i += 1;
         } else {
@@ -86,71 +120,107 @@ fn lines(text: &[u8], from: usize, count: u32, words: &mut [u32]) -> Rest
                 good: false,
                 at: c.at,
                 line: c.line as u32,
-                n,
+                answer,
+                place,
             };
         }
     }
     Rest {
         good: true,
         at,
-        line: 10 + i,
-        n,
+        line: first + i,
+        answer,
+        place,
     }
 }
 
-// A list that was read, its first `n` words: the checks, and then the lent room.
-fn read_list(s: Settings, words: &[u32], n: usize, list: &mut [u32]) -> Reading
-    requires { ⌜ n ≤ length (now words) ⌝ }
-    ensures { λ r. ⌜ (r ≡ Listing.readList (length (now (list .entry))) s (take n (now (words .entry))) .reading) × (now (list .exit) ≡ Listing.inFront (Listing.readList (length (now (list .entry))) s (take n (now (words .entry))) .list) (now (list .entry))) ⌝ }
+// The instruction lines once more, into the front of the lent room.
+fn fill_lines(text: &[u8], from: usize, count: u32, list: &mut [u32])
+    requires { ⌜ (from ≤ length (now text)) × (count ≤ listLimit) × (6 * count ≤ length (now list)) × Places.Whole (Forms.scan (Listing.lines count) (drop from (now text))) ⌝ }
+    ensures { λ _. ⌜ now (list .exit) ≡ Listing.inFront (Places.numbersOf (Forms.scan (Listing.lines count) (drop from (now (text .entry))))) (now (list .entry)) ⌝ }
 {
-    let found = list_answer(s, &words[..n]);
-    if found.answer != 0 {
-        return refused(found.answer, found.place, s.cursor);
-    }
-    if list.len() < n {
-        return refused(11, 0, 0);
-    }
-    copy_words(words, n, list);
-    Reading {
-        settings: s,
-        answer: 0,
-        steps: 0,
-        place: 0,
-        cursor: s.cursor,
-        length: n,
+    let mut at = from;
+    let mut n: usize = 0;
+    let mut i: u32 = 0;
+    while i < count {
+        let c = read_form(text, at, 1, LINE_FORM);
+        n = put_words(list, n, 6, &c.numbers);
+        at = c.at;
+        i += 1;
     }
 }
 
-// What follows a header.
-fn read_rest(text: &[u8], at: usize, head: &[u32; 10], list: &mut [u32]) -> Reading
+// A list that is in form, the first refused of whose instructions was found: the other checks, and then the lent room.
+fn read_list(
+    s: Settings,
+    text: &[u8],
+    at: usize,
+    count: u32,
+    found: Found,
+    list: &mut [u32],
+) -> Reading
+    requires { ⌜ (at ≤ length (now text)) × (count ≤ listLimit) × Places.Whole (Forms.scan (Listing.lines count) (drop at (now text))) × (found ≡ scanned (Places.numbersOf (Forms.scan (Listing.lines count) (drop at (now text))))) ⌝ }
+    ensures { λ r. ⌜ Held.Reads (Listing.readList (length (now (list .entry))) s (Places.numbersOf (Forms.scan (Listing.lines count) (drop at (now (text .entry)))))) (now (list .entry)) (now (list .exit)) r ⌝ }
+{
+    if settings_good(s) {
+        if found.answer != 0 {
+            return refused(found.answer, found.place, s.cursor);
+        }
+        let n = 6 * count as usize;
+        if list.len() < n {
+            return refused(11, 0, 0);
+        }
+        fill_lines(text, at, count, list);
+        return Reading {
+            settings: s,
+            answer: 0,
+            steps: 0,
+            place: 0,
+            cursor: s.cursor,
+            length: n,
+        };
+    }
+    refused(3, 0, s.cursor)
+}
+
+// What follows the head of a listing in a format.
+fn read_rest(text: &[u8], at: usize, format: u8, head: &[u32; 10], list: &mut [u32]) -> Reading
     requires { ⌜ at ≤ length (now text) ⌝ }
-    ensures { λ r. ⌜ (r ≡ Listing.readHeader (length (now (list .entry))) (Forms.taken (now (head .entry)) (drop at (now (text .entry)))) .reading) × (now (list .exit) ≡ Listing.inFront (Listing.readHeader (length (now (list .entry))) (Forms.taken (now (head .entry)) (drop at (now (text .entry)))) .list) (now (list .entry))) ⌝ }
+    ensures { λ r. ⌜ Held.Reads (Listing.readHeader (Held.formatBy format) (length (now (list .entry))) (Forms.taken (now (head .entry)) (drop at (now (text .entry))))) (now (list .entry)) (now (list .exit)) r ⌝ }
 {
     let count = head[8];
-    if 1024 < count {
+    if limit_of(format) < count {
         return refused(5, 0, head[3]);
     }
-    let mut words: [u32; 6145] = [0; 6145];
-    let c = lines(text, at, count, &mut words);
+    let first = first_line(format);
+    let c = check_lines(text, at, first, count);
     if c.good {
         if c.at < text.len() {
-            return refused(10, 10 + count, 0);
+            return refused(10, first + count, 0);
         }
-        return read_list(settings_of(head), &words, c.n, list);
+        let found = Found {
+            answer: c.answer,
+            place: c.place,
+        };
+        return read_list(settings_of(head), text, at, count, found, list);
     }
     refused(10, c.line, 0)
 }
+
+// The most bytes of a listing.
+const TEXT_LIMIT: usize = 1048576;
 
 // A listing: its settings, and its list in front of the lent room.
 pub fn read(text: &[u8], list: &mut [u32]) -> Reading
     ensures { λ r. ⌜ (r ≡ Listing.readText (length (now (list .entry))) (now (text .entry)) .reading) × (now (list .exit) ≡ Listing.inFront (Listing.readText (length (now (list .entry))) (now (text .entry)) .list) (now (list .entry))) ⌝ }
 {
-    if 65536 < text.len() {
+    if TEXT_LIMIT < text.len() {
         return refused(11, 0, 0);
     }
-    let c = read_form(text, 0, 1, HEADER_FORM);
+    let format = format_of(text);
+    let c = read_form(text, 0, 1, format);
     if c.good {
-        return read_rest(text, c.at, &c.numbers, list);
+        return read_rest(text, c.at, format, &c.numbers, list);
     }
     refused(10, c.line as u32, 0)
 }

@@ -14,7 +14,7 @@ ghost use Rattle.listing.specs.Report as Report;
 // The report's forms, by the rule of `forms`; the answer's digits stand between the first two.
 const ANSWER: [u8; 7] = *b"answer=";
 
-const OUTCOME: [u8; 26] = *b"\nsteps=\x04\nplace=\x04\ncursor=\x04\n";
+const OUTCOME: [u8; 26] = *b"\nsteps=\x05\nplace=\x05\ncursor=\x04\n";
 
 const CHANGE: [u8; 20] = *b"reg=\x02 lane=\x02 word=\x18\n";
 
@@ -54,10 +54,10 @@ fn register_of(slot: u32) -> u32
     if slot < 8 { slot } else { slot + 3 }
 }
 
-// The four lines of an outcome: 52 bytes at most.
+// The four lines of an outcome: 54 bytes at most.
 fn put_outcome(answer: u32, steps: u32, place: u32, cursor: u32, page: &mut [u8]) -> usize
-    requires { ⌜ 52 ≤ length (now page) ⌝ }
-    ensures { λ r. ⌜ Places.Renders (Report.outcomeLines answer steps place cursor) 0 52 (now (page .entry)) (now (page .exit)) r ⌝ }
+    requires { ⌜ 54 ≤ length (now page) ⌝ }
+    ensures { λ r. ⌜ Places.Renders (Report.outcomeLines answer steps place cursor) 0 54 (now (page .entry)) (now (page .exit)) r ⌝ }
 {
     let values = [answer, steps, place, cursor];
     let w = width(answer);
@@ -102,7 +102,7 @@ fn put_report(
     after: &[u32],
     page: &mut [u8],
 ) -> usize
-    requires { ⌜ 11188 ≤ length (now page) ⌝ }
+    requires { ⌜ 11190 ≤ length (now page) ⌝ }
     ensures { λ r. ⌜ Places.Grown 0 r (now (page .entry)) (now (page .exit)) (Report.report answer steps place cursor (now (before .entry)) (now (after .entry)) .bytes) ⌝ }
 {
     let at = put_outcome(answer, steps, place, cursor, page);
@@ -124,7 +124,7 @@ pub(crate) fn report(
 ) -> Reporting
     ensures { λ r. ⌜ Report.Reports (Report.report answer steps place cursor (now (before .entry)) (now (after .entry))) (now (text .entry)) (now (text .exit)) r ⌝ }
 {
-    let mut page: [u8; 11188] = [0; 11188];
+    let mut page: [u8; 11190] = [0; 11190];
     let n = put_report(answer, steps, place, cursor, before, after, &mut page);
     if text.len() < n {
         return Reporting {

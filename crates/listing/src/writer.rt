@@ -1,15 +1,15 @@
-// Settings and list to text: the checks, a render into a local page, and the lent room only then.
-use crate::HEADER;
+// Settings and list to text: the checks, a count of the bytes, and the lent room only then.
+use crate::HEAD_2;
 use crate::LINE;
 use crate::Writing;
-use crate::forms::copy_bytes;
+use crate::forms::name_length;
 use crate::forms::render;
 use lane::Settings;
 use runner::checks::list_answer;
 ghost use mathlib.Core.Path.{_≡_};
-ghost use Prim.Native.Nat.{_+_, _<_, _≤_};
+ghost use Prim.Native.Nat.{_+_, _*_, _<_, _≤_};
 ghost use lib.ListN.{length};
-ghost use Rattle.runner.specs.Checks.{countOf};
+ghost use Rattle.runner.specs.Checks.{countOf, listLimit};
 ghost use Rattle.listing.specs.Forms as Forms;
 ghost use Rattle.listing.specs.PrivatePlaces as Places;
 ghost use Rattle.listing.specs.Listing as Listing;
@@ -44,30 +44,51 @@ fn header_of(s: Settings, count: u32) -> [u32; 9]
     ]
 }
 
-// The instruction lines: 45 bytes at most for each.
-fn put_lines(list: &[u32], page: &mut [u8], place: usize) -> usize
-    requires { ⌜ (length (now list) ≤ 6144) × (place + 46080 ≤ length (now page)) ⌝ }
-    ensures { λ r. ⌜ Places.Renders (Forms.render (Listing.lines (countOf (now (list .entry)))) (now (list .entry))) place 46080 (now (page .entry)) (now (page .exit)) r ⌝ }
+// The bytes of an instruction line but for its name.
+const LINE_WIDTH: usize = 38;
+
+// How many bytes the instruction lines take.
+fn lines_length(list: &[u32]) -> usize
+    requires { ⌜ length (now list) ≤ 6 * listLimit ⌝ }
+    ensures { λ r. ⌜ r ≡ length (Forms.render (Listing.lines (countOf (now (list .entry)))) (now (list .entry))) ⌝ }
+{
+    let count = list.len() / 6;
+    let mut n: usize = 0;
+    let mut k: usize = 0;
+    while k < count {
+        n += LINE_WIDTH + name_length(list[6 * k]);
+        k += 1;
+    }
+    n
+}
+
+// The instruction lines.
+fn put_lines(list: &[u32], text: &mut [u8], place: usize) -> usize
+    requires { ⌜ (length (now list) ≤ 6 * listLimit) × (place + length (Forms.render (Listing.lines (countOf (now list))) (now list)) ≤ length (now text)) ⌝ }
+    ensures { λ r. ⌜ Places.Grown place r (now (text .entry)) (now (text .exit)) (Forms.render (Listing.lines (countOf (now (list .entry)))) (now (list .entry))) ⌝ }
 {
     let count = list.len() / 6;
     let mut at = place;
     let mut k: usize = 0;
     while k < count {
-        at = render(&LINE, list, 6 * k, page, at);
+        at = render(&LINE, list, 6 * k, text, at);
         k += 1;
     }
     at
 }
 
-// A whole listing: 104 bytes for the header.
-fn put_listing(s: Settings, list: &[u32], page: &mut [u8]) -> usize
-    requires { ⌜ (length (now list) ≤ 6144) × (46184 ≤ length (now page)) ⌝ }
-    ensures { λ r. ⌜ Places.Grown 0 r (now (page .entry)) (now (page .exit)) (Listing.listing s (now (list .entry))) ⌝ }
+// A whole listing.
+fn put_listing(s: Settings, list: &[u32], text: &mut [u8])
+    requires { ⌜ (length (now list) ≤ 6 * listLimit) × (length (Listing.listing s (now list)) ≤ length (now text)) ⌝ }
+    ensures { λ _. ⌜ now (text .exit) ≡ Listing.inFront (Listing.listing s (now (list .entry))) (now (text .entry)) ⌝ }
 {
     let count = (list.len() / 6) as u32;
-    let at = render(&HEADER, &header_of(s, count), 0, page, 0);
-    put_lines(list, page, at)
+    let at = render(&HEAD_2, &header_of(s, count), 0, text, 0);
+    put_lines(list, text, at);
 }
+
+// The bytes of the head.
+const HEAD_WIDTH: usize = 114;
 
 // Settings and a list as a listing, in front of the lent room.
 pub fn write(s: Settings, list: &[u32], text: &mut [u8]) -> Writing
@@ -77,12 +98,11 @@ pub fn write(s: Settings, list: &[u32], text: &mut [u8]) -> Writing
     if found.answer != 0 {
         return refused(found.answer, found.place, s.cursor);
     }
-    let mut page: [u8; 46184] = [0; 46184];
-    let n = put_listing(s, list, &mut page);
+    let n = HEAD_WIDTH + lines_length(list);
     if text.len() < n {
         return refused(11, 0, 0);
     }
-    copy_bytes(&page, n, text);
+    put_listing(s, list, text);
     Writing {
         answer: 0,
         steps: 0,

@@ -1,21 +1,21 @@
 -- What an accepted list, and an accepted run, were checked for, and that this is all: their answers are 0 exactly then. Assumes nothing.
 use mathlib.Core.Path.{_≡_, refl, sym, ap, _∙_}
-use Prim.Native.Nat.{ℕ, zero, suc, _+_, _/_, _%_, _<_, _≤_}
+use Prim.Native.Nat.{ℕ, zero, suc, _+_, _*_, _/_, _%_, _<_, _≤_}
 use native.Mathlib.Nat.{add-zero, zero-add}
 use native.Mathlib.Omega.{arith}
 use mathlib.Core.Bool.{Bool, true, false}
 use mathlib.Core.List.{List}
 use lib.ListN.{length}
 use lib.Dec.{eqb, leb}
-use borrow.Author.Tests.{eq-eqb, eqb-true, eqb-false, le-leb, leb-true}
+use borrow.Author.Tests.{eq-eqb, ne-eqb, eqb-true, eqb-false, le-leb, leb-true}
 use Rattle.lane.specs.declared.Settings.{Settings}
 use Rattle.lane.specs.Words.{pick}
 use Rattle.lane.specs.Refusals.{pass, settingsGood, instructionAnswer}
-use Rattle.lane.proofs.Cases.{pick-true}
+use Rattle.lane.proofs.Cases.{pick-true, pick-false}
 use Rattle.lane.proofs.Accepted.{answer-small}
 use Rattle.runner.specs.declared.Found.{Found}
 use Rattle.runner.specs.Image.{imageGood}
-use Rattle.runner.specs.Checks.{insnAt, countOf, found, scan, scanned, givenAnswer, firstAnswer, thenScanned, runAnswer, listAnswer}
+use Rattle.runner.specs.Checks.{insnAt, countOf, found, scan, scanned, listLimit, givenAnswer, firstAnswer, thenScanned, runAnswer, listAnswer}
 
 -- ---- a check that is passed, and one that gives a number
 
@@ -41,18 +41,18 @@ pass-small false n rest h k = h
 pub record Given (s : Settings) (list : List ℕ) : Type 0 where
   pub settings-good : settingsGood s ≡ true
   pub six : length list % 6 ≡ 0
-  pub few : length list / 6 ≤ 1024
+  pub few : length list / 6 ≤ listLimit
 
 pub given : (s : Settings) (list : List ℕ) → givenAnswer s list ≡ 0 → Given s list
 unfolding givenAnswer
 given s list h =
-    let a = passed (settingsGood s) 2 (pass (eqb (length list % 6) 0) 4 (pass (leb (countOf list) 1024) 5 0)) h in
-    let b = passed (eqb (length list % 6) 0) 3 (pass (leb (countOf list) 1024) 5 0) (a .1) in
-    let c = passed (leb (countOf list) 1024) 4 0 (b .1) in
+    let a = passed (settingsGood s) 2 (pass (eqb (length list % 6) 0) 4 (pass (leb (countOf list) listLimit) 5 0)) h in
+    let b = passed (eqb (length list % 6) 0) 3 (pass (leb (countOf list) listLimit) 5 0) (a .1) in
+    let c = passed (leb (countOf list) listLimit) 4 0 (b .1) in
     record {
       settings-good = a .0;
       six = eqb-true (length list % 6) 0 (b .0);
-      few = leb-true (length list / 6) 1024 (c .0);
+      few = leb-true (length list / 6) listLimit (c .0);
     }
 
 none-given : (s : Settings) (list : List ℕ) → Given s list → givenAnswer s list ≡ 0
@@ -60,9 +60,9 @@ unfolding givenAnswer
 none-given s list g =
     pass-on (settingsGood s) 3 _ (g .settings-good)
     ∙ pass-on (eqb (length list % 6) 0) 4 _ (eq-eqb (length list % 6) 0 (g .six))
-    ∙ pass-on (leb (countOf list) 1024) 5 0 (le-leb (countOf list) 1024 (g .few))
+    ∙ pass-on (leb (countOf list) listLimit) 5 0 (le-leb (countOf list) listLimit (g .few))
 
-pub given-short : (s : Settings) (list : List ℕ) → Given s list → length list ≤ 6144
+pub given-short : (s : Settings) (list : List ℕ) → Given s list → length list ≤ 6 * listLimit
 given-short s list g = omega (arith, g .six, g .few)
 
 -- ---- 1 to 6
@@ -177,6 +177,21 @@ pub list-accepted : (s : Settings) (list : List ℕ) → Listed s list → listA
 unfolding listAnswer
 list-accepted s list l = each-then (givenAnswer s list) list (none-given s list (l .checked)) (l .each)
 
+-- with settings out of range a list is not looked at
+pub list-unset : (s : Settings) (list : List ℕ) → settingsGood s ≡ false → listAnswer s list ≡ found 3 0
+unfolding listAnswer thenScanned givenAnswer pass
+list-unset s list h =
+    rw (pick-false {X = ℕ} (settingsGood s) (pick (eqb (length list % 6) 0) (pick (leb (countOf list) listLimit) 0 5) 4) 3 h)
+    (pick-false {X = Found} (eqb 3 0) (scanned list) (found 3 0) refl)
+
+-- and with good ones a list of whole instructions, within the limit, is checked by its instructions alone
+pub list-scanned : (s : Settings) (list : List ℕ) → settingsGood s ≡ true → length list % 6 ≡ 0 → length list / 6 ≤ listLimit
+    → listAnswer s list ≡ scanned list
+unfolding listAnswer thenScanned
+list-scanned s list h k l =
+    pick-true (eqb (givenAnswer s list) 0) (scanned list) (found (givenAnswer s list) 0)
+    (eq-eqb (givenAnswer s list) 0 (none-given s list (record { settings-good = h; six = k; few = l })))
+
 -- ---- a run
 
 pub record Accepted (s : Settings) (image dst list : List ℕ) : Type 0 where
@@ -231,4 +246,4 @@ list-small s list = go (eqb (givenAnswer s list) 0)
     go true = scan-small list (length list / 6) 0
     go false =
         pass-small (settingsGood s) 3 _ (omega arith)
-        (pass-small (eqb (length list % 6) 0) 4 _ (omega arith) (pass-small (leb (countOf list) 1024) 5 0 (omega arith) (omega arith)))
+        (pass-small (eqb (length list % 6) 0) 4 _ (omega arith) (pass-small (leb (countOf list) listLimit) 5 0 (omega arith) (omega arith)))

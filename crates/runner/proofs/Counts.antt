@@ -19,7 +19,7 @@ use Rattle.lane.specs.Rule.{isTied}
 use Rattle.lane.proofs.Ranks.{tied-words}
 use Rattle.lane.proofs.Stores.{length-build, getD-build, build-same}
 use Rattle.runner.specs.Image.{laneIn}
-use Rattle.runner.specs.Checks.{insnAt}
+use Rattle.runner.specs.Checks.{insnAt, listLimit}
 use Rattle.runner.specs.Run.{Machine, steps, tieIn, overColumn, tiesAfter, noTies}
 use Rattle.runner.specs.PrivateRows.{row, full}
 use Rattle.runner.specs.PrivateSwap.{tiedBy}
@@ -161,7 +161,7 @@ few-ties s list (suc n) m c = more _ _ _ _ _ n (few-ties s list n m c) (flag-sma
     more x a b c d n h p q r s = omega arith
 
 -- so there is room
-pub room-left : (s : Settings) (list : List ℕ) (n : ℕ) (m : Machine) (ties : List ℕ) → n ≤ 1024 → ties ≡ build 8 (tiesAfter s list n m) → Room ties
+pub room-left : (s : Settings) (list : List ℕ) (n : ℕ) (m : Machine) (ties : List ℕ) → n ≤ listLimit → ties ≡ build 8 (tiesAfter s list n m) → Room ties
 room-left s list n m ties l e =
     record {
       eight = ap length e ∙ length-build 8 (tiesAfter s list n m);

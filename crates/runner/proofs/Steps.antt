@@ -1,6 +1,6 @@
 -- One instruction over all lanes, the steps through a list, and a run. Assumes nothing.
 use mathlib.Core.Path.{_≡_, refl, sym, ap, _∙_}
-use Prim.Native.Nat.{ℕ, _+_, _%_, _≤_}
+use Prim.Native.Nat.{ℕ, _+_, _*_, _%_, _≤_}
 use native.Mathlib.Numerals.{add-one}
 use native.Mathlib.Omega.{arith}
 use mathlib.Core.Bool.{Bool, true, false, _||_, false≢true}
@@ -20,7 +20,7 @@ use Rattle.lane.proofs.Stores.{length-build}
 use Rattle.runner.specs.declared.Found.{Found}
 use Rattle.runner.specs.declared.Outcome.{Outcome}
 use Rattle.runner.specs.Image.{laneIn}
-use Rattle.runner.specs.Checks.{insnAt, countOf, runAnswer}
+use Rattle.runner.specs.Checks.{insnAt, countOf, listLimit, runAnswer}
 use Rattle.runner.specs.Run.{Machine, evenCell, oddCell, withCells, cellsAfter, laneAfter, imageAt, imageAfter, dstAt, dstAfter, cursorAfter, stepped, steps, begin, finish, tieIn, tiesAfter, noTies, whenDone, whenRefused, outcomeOf, runImage, runDst, Ran}
 use Rattle.runner.specs.PrivateRows.{storing, Enabled}
 use Rattle.runner.specs.PrivateSteps.{counted, Stored, Met, Left, starting, Through}
@@ -233,7 +233,7 @@ module _ (s : Settings) (image dst list : List ℕ) (f : Found) (e : f ≡ runAn
   other-is : (f .answer ≡ 0 → ⊥) → eqb (runAnswer s image dst list .answer) 0 ≡ false
   other-is h = ne-eqb (runAnswer s image dst list .answer) 0 (λ z. h (ap (λ (x : Found). x .answer) e ∙ z))
 
-  pub run-sized : f .answer ≡ 0 → (length image ≡ 768) × ((length dst ≡ 16384) × (length list ≤ 6144))
+  pub run-sized : f .answer ≡ 0 → (length image ≡ 768) × ((length dst ≡ 16384) × (length list ≤ 6 * listLimit))
   run-sized h =
       let a = accepted s image dst list (sym (ap (λ (x : Found). x .answer) e) ∙ h) .passed in (a .image-long, (a .dst-long, given-short s list (a .list-given)))
 

@@ -41,9 +41,13 @@ scan list k (suc n) =
 abbrev pub scanned : List ℕ → Found
 scanned list = scan list 0 (countOf list)
 
--- "3 a setting outside its range", "4 list length not a multiple of six", "5 more than 1,024 instructions", in that order; 0 where none is given.
+-- Document 02, M-105: "The library's limit becomes 16,384 instructions." Said here, and nowhere else.
+abbrev pub listLimit : ℕ
+listLimit = 16384
+
+-- "3 a setting outside its range", "4 list length not a multiple of six", 5 more instructions than the limit, in that order; 0 where none is given.
 unfoldable pub givenAnswer : Settings → List ℕ → ℕ
-givenAnswer s list = pass (settingsGood s) 3 (pass (eqb (length list % 6) 0) 4 (pass (leb (countOf list) 1024) 5 0))
+givenAnswer s list = pass (settingsGood s) 3 (pass (eqb (length list % 6) 0) 4 (pass (leb (countOf list) listLimit) 5 0))
 
 -- "1 to 6 are tried in that order": 1 and 2, those, then "6 image not well formed".
 unfoldable pub firstAnswer : Settings → List ℕ → List ℕ → List ℕ → ℕ

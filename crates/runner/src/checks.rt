@@ -14,7 +14,7 @@ use lane::words::USE_FLAG;
 use lane::words::keep;
 ghost use mathlib.Core.Path.{_≡_};
 ghost use mathlib.Core.Bool.{true};
-ghost use Prim.Native.Nat.{_%_, _<_, _≤_};
+ghost use Prim.Native.Nat.{_*_, _%_, _<_, _≤_};
 ghost use lib.ListN.{length};
 ghost use Rattle.lane.specs.Refusals.{instructionAnswer};
 ghost use Rattle.runner.specs.Image as Image;
@@ -129,7 +129,7 @@ fn plain(i: Insn) -> bool
 }
 
 // 7, 8, 9 or 0 for an instruction. All but the refused are plainly good, and that is quickly seen.
-fn answer_of(i: Insn) -> u32
+pub fn answer_of(i: Insn) -> u32
     ensures { λ r. ⌜ r ≡ instructionAnswer true i ⌝ }
 {
     if plain(i) {
@@ -140,7 +140,7 @@ fn answer_of(i: Insn) -> u32
 
 // The first refused instruction.
 fn scanned(list: &[u32]) -> Found
-    requires { ⌜ length (now list) ≤ 6144 ⌝ }
+    requires { ⌜ length (now list) ≤ 6 * Checks.listLimit ⌝ }
     ensures { λ r. ⌜ r ≡ Checks.scanned (now (list .entry)) ⌝ }
 {
     let count = list.len() / 6;
@@ -161,8 +161,8 @@ fn scanned(list: &[u32]) -> Found
     }
 }
 
-// The most instructions a list may hold.
-const LIST_LIMIT: usize = 1024;
+// The most instructions a list may hold: said here, and nowhere else.
+pub const LIST_LIMIT: usize = 16384;
 
 // 3, 4 or 5, or 0 where none is given.
 fn given_answer(s: Settings, list: &[u32]) -> u32
@@ -202,7 +202,7 @@ pub(crate) fn first_answer(s: Settings, image: &[u32], dst: &[u16], list: &[u32]
 
 // The instructions in turn, where no number was given before them.
 fn then_scanned(answer: u32, list: &[u32]) -> Found
-    requires { ⌜ (answer ≡ 0 → length (now list) ≤ 6144) ⌝ }
+    requires { ⌜ (answer ≡ 0 → length (now list) ≤ 6 * Checks.listLimit) ⌝ }
     ensures { λ r. ⌜ r ≡ Checks.thenScanned answer (now (list .entry)) ⌝ }
 {
     if answer == 0 {

@@ -23,9 +23,10 @@ use lane::load::next_cursor;
 use lane::load::stride;
 ghost use mathlib.Core.Path.{_≡_};
 ghost use mathlib.Core.Bool.{true, false};
-ghost use Prim.Native.Nat.{_<_, _≤_};
+ghost use Prim.Native.Nat.{_*_, _<_, _≤_};
 ghost use lib.ListN.{length};
 ghost use Rattle.lane.specs.Load as Load;
+ghost use Rattle.runner.specs.Checks as Checks;
 ghost use Rattle.runner.specs.Run as Run;
 ghost use Rattle.runner.specs.PrivateRows as Rows;
 ghost use Rattle.runner.specs.PrivateSteps as Steps;
@@ -113,7 +114,7 @@ pub(crate) fn step_all(
     dst: &mut [u16],
     list: &[u32],
 ) -> Ended
-    requires { ⌜ (length (now image) ≡ 768) × ((length (now dst) ≡ 16384) × (length (now list) ≤ 6144)) ⌝ }
+    requires { ⌜ (length (now image) ≡ 768) × ((length (now dst) ≡ 16384) × (length (now list) ≤ 6 * Checks.listLimit)) ⌝ }
     ensures { λ r. ⌜ Steps.Through s cursor (now (image .entry)) (now (dst .entry)) (now (list .entry)) (r .cursor) (now (image .exit)) (now (dst .exit)) (r .ties) ⌝ }
 {
     let count = list.len() / 6;

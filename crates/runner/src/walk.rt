@@ -15,7 +15,7 @@ ghost use mathlib.Core.Path.{_≡_};
 ghost use Prim.Native.Nat.{_+_, _*_, _<_, _≤_};
 ghost use lib.ListN.{length};
 ghost use lib.Seq.{paste};
-ghost use Rattle.runner.specs.Checks.{insnAt};
+ghost use Rattle.runner.specs.Checks.{insnAt, listLimit};
 ghost use Rattle.runner.specs.Walk as Walks;
 
 // Where a walk stands: how many steps are done, and the cursor.
@@ -138,7 +138,7 @@ fn step_kept(
     list: &[u32],
     store: &mut [u32],
 ) -> u32
-    requires { ⌜ (length (now image) ≡ 768) × ((length (now dst) ≡ 16384) × ((6 * k + 6 ≤ length (now list)) × ((k < 1024) × (802 * k + 802 ≤ length (now store))))) ⌝ }
+    requires { ⌜ (length (now image) ≡ 768) × ((length (now dst) ≡ 16384) × ((6 * k + 6 ≤ length (now list)) × ((k < listLimit) × (802 * k + 802 ≤ length (now store))))) ⌝ }
     ensures { λ r. ⌜ Walks.standing (record { at = k + 1; cursor = r }) (now (image .exit)) (now (dst .exit)) (now (store .exit)) ≡ Walks.forwarded s (now (list .entry)) (Walks.standing (record { at = k; cursor = cursor }) (now (image .entry)) (now (dst .entry)) (now (store .entry))) ⌝ }
 {
     let i = insn_at(list, k);
@@ -221,7 +221,7 @@ fn bring_back(op: u32, image: &mut [u32], dst: &mut [u16], entry: &[u32]) -> u32
 
 // Instruction `k` of a list taken back by its entry; the cursor before it.
 fn step_back(k: usize, image: &mut [u32], dst: &mut [u16], list: &[u32], store: &[u32]) -> u32
-    requires { ⌜ (length (now image) ≡ 768) × ((length (now dst) ≡ 16384) × ((6 * k + 6 ≤ length (now list)) × ((k < 1024) × (802 * k + 802 ≤ length (now store))))) ⌝ }
+    requires { ⌜ (length (now image) ≡ 768) × ((length (now dst) ≡ 16384) × ((6 * k + 6 ≤ length (now list)) × ((k < listLimit) × (802 * k + 802 ≤ length (now store))))) ⌝ }
     ensures { λ r. ⌜ record { image = now (image .exit); dst = now (dst .exit); cursor = r } ≡ Walks.broughtBack (insnAt (now (list .entry)) k .op) (Walks.entryIn (now (store .entry)) k) (now (dst .entry)) ⌝ }
 {
     let first = 6 * k;

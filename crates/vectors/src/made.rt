@@ -8,7 +8,7 @@ pub const IMAGE: usize = 1024;
 
 pub const DST: usize = 16400;
 
-pub const LIST: usize = 6160;
+pub const LIST: usize = 98400;
 
 // The generator's next word.
 fn draw(x: &mut u32) -> u32 {

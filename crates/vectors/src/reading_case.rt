@@ -10,7 +10,7 @@ use host::replay_read;
 ghost use Prim.Native.Nat.{_≤_};
 
 // More bytes than any text has.
-pub const TEXT: usize = 65700;
+pub const TEXT: usize = 1048700;
 
 // Bytes from standard input, put into a text: how many, and these. The place after them.
 fn add_bytes(text: &mut [u8; TEXT], from: usize) -> usize {

@@ -1,7 +1,7 @@
-use borrow.Author.Needs.{needs}
 use lib.Seq.{length-take-le}
 use mathlib.Core.Path.{sym}
 use Rattle.listing.proofs.Reports.{reports-within}
+use borrow.Author.Needs.{needs}
 use Rattle.replay.proofs.print_report.Statement.{statement}
 use Rattle.replay.proofs.print_report.Tie as tie
 
@@ -14,26 +14,17 @@ replay-requires c κs = search needs
 array-share-prefix-room : tie.Need-array-share-prefix-room
 array-share-prefix-room c = reports-within _ _ (c .before .replay .last .1 .0) _ (c .before .replay .ensures) (c .before .replay .kept .1 .0)
 
-slice-aggregate-write-all : tie.Need-slice-aggregate-write-all
-slice-aggregate-write-all c =
+slice-aggregate-put : tie.Need-slice-aggregate-put
+slice-aggregate-put c =
     sym
     (length-take-le _ (c .before .before .replay .last .1 .0)
     (reports-within _ _ (c .before .before .replay .last .1 .0) _ (c .before .before .replay .ensures) (c .before .before .replay .kept .1 .0)))
 
-write-all-requires : tie.Need-write-all-requires
-write-all-requires c κs = search needs
-
-slice-aggregate-write-all-2 : tie.Need-slice-aggregate-write-all-2
-slice-aggregate-write-all-2 c = search needs
-
-write-all-requires-2 : tie.Need-write-all-requires-2
-write-all-requires-2 c κs = search needs
+put-requires : tie.Need-put-requires
+put-requires c κs = search needs
 
 returns : tie.Need-returns
 returns c = search needs
-
-returns-2 : tie.Need-returns-2
-returns-2 c = search needs
 
 pub print-report-spec : {M : Type 1} → statement M
 print-report-spec =
@@ -42,9 +33,6 @@ print-report-spec =
     slice-aggregate-replay
     replay-requires
     array-share-prefix-room
-    slice-aggregate-write-all
-    write-all-requires
-    slice-aggregate-write-all-2
-    write-all-requires-2
-    returns
-    returns-2)
+    slice-aggregate-put
+    put-requires
+    returns)

@@ -3,12 +3,11 @@ use native.Mathlib.Omega.{arith}
 use Rattle.listing.proofs.Items.{item-dec, item-name, item-low, item-hex, item-high}
 use Rattle.listing.proofs.forms.put_item.Statement.{statement}
 use Rattle.listing.specs.Forms.{renderItem}
-use Rattle.listing.specs.PrivatePlaces.{widestItem}
+use Rattle.listing.proofs.Walks.{room-dec, room-hex, room-lit}
 use Rattle.listing.proofs.forms.put_item.Tie as tie
 
 put-number-requires : tie.Need-put-number-requires
-unfolding widestItem
-put-number-requires c κs = (rw (item-dec _ (c .before .if1 .taken)) at (c .before .before .before .pre), omega arith, omega arith)
+put-number-requires c κs = (room-dec _ _ _ _ (item-dec _ (c .before .if1 .taken)) (c .before .before .before .pre), omega arith, omega arith)
 
 add-result : tie.Need-add-result
 add-result c = search needs
@@ -21,7 +20,7 @@ unfolding renderItem
 returns c = rw (item-dec _ (c .before .before .before .before .if1 .taken)) (c .before .before .put-number .ensures)
 
 put-op-requires : tie.Need-put-op-requires
-unfolding widestItem
+unfolding renderItem
 put-op-requires c κs = rw (item-name _ (c .before .if2 .taken)) at (c .before .before .before .before .pre)
 
 same-length-2 : tie.Need-same-length-2
@@ -32,8 +31,7 @@ unfolding renderItem
 returns-2 c = rw (item-name _ (c .before .before .before .before .if2 .taken)) (c .before .before .put-op .ensures)
 
 put-byte-requires : tie.Need-put-byte-requires
-unfolding widestItem
-put-byte-requires c κs = omega (arith, rw (item-low _ (c .before .before .before .if1 .left) (c .before .before .if2 .left) (c .before .if3 .taken)) at (c .before .before .before .before .before .pre))
+put-byte-requires c κs = room-lit _ _ _ _ (item-low _ (c .before .before .before .if1 .left) (c .before .before .if2 .left) (c .before .if3 .taken)) (c .before .before .before .before .before .pre)
 
 same-length-3 : tie.Need-same-length-3
 same-length-3 c = search needs
@@ -46,8 +44,7 @@ sub-put-number : tie.Need-sub-put-number
 sub-put-number c = search needs
 
 put-number-requires-2 : tie.Need-put-number-requires-2
-unfolding widestItem
-put-number-requires-2 c κs = (rw (item-hex _ (c .before .before .if3 .left) (c .before .if4 .taken)) at (c .before .before .before .before .before .before .pre), omega arith, omega arith)
+put-number-requires-2 c κs = (room-hex _ _ _ _ (item-hex _ (c .before .before .if3 .left) (c .before .if4 .taken)) (c .before .before .before .before .before .before .pre), omega arith, omega arith)
 
 sub-result : tie.Need-sub-result
 sub-result c = search needs
@@ -63,8 +60,7 @@ unfolding renderItem
 returns-4 c = rw (item-hex _ (c .before .before .before .before .before .if3 .left) (c .before .before .before .before .if4 .taken)) (c .before .before .put-number2 .ensures)
 
 put-byte-requires-2 : tie.Need-put-byte-requires-2
-unfolding widestItem
-put-byte-requires-2 c κs = omega (arith, rw (item-high _ (c .before .if4 .left)) at (c .before .before .before .before .before .before .pre))
+put-byte-requires-2 c κs = room-lit _ _ _ _ (item-high _ (c .before .if4 .left)) (c .before .before .before .before .before .before .pre)
 
 same-length-5 : tie.Need-same-length-5
 same-length-5 c = search needs

@@ -2,6 +2,7 @@ use borrow.Author.Needs.{needs}
 use mathlib.Core.Path.{sym, _∙_}
 use native.Mathlib.Omega.{arith}
 use Rattle.listing.proofs.Reports.{change-form, change-widest, change-none, change-some}
+use Rattle.listing.proofs.Walks.{render-room}
 use Rattle.listing.proofs.report.put_change.Statement.{statement}
 use Rattle.listing.specs.Forms.{spell, bytes}
 use Rattle.listing.proofs.report.put_change.Tie as tie
@@ -26,7 +27,7 @@ slice-aggregate-render-2 c = search needs
 
 render-requires : tie.Need-render-requires
 unfolding bytes spell
-render-requires c κs = (omega arith, rw (change-form, change-widest) (c .before .before .before .before .before .before .before .before .before .before .pre .0))
+render-requires c κs = (omega arith, render-room _ _ _ _ 29 (rw change-form change-widest) (c .before .before .before .before .before .before .before .before .before .before .pre .0))
 
 same-length : tie.Need-same-length
 same-length c = search needs

@@ -1,6 +1,7 @@
 use borrow.Author.Needs.{needs}
 use native.Mathlib.Omega.{arith}
 use Rattle.listing.proofs.Reports.{answer-widest, outcome-widest, outcome-grows}
+use Rattle.listing.proofs.Walks.{render-room}
 use Rattle.listing.proofs.report.put_outcome.Statement.{statement}
 use Rattle.listing.specs.Forms.{spell, bytes}
 use Rattle.listing.proofs.report.put_outcome.Tie as tie
@@ -16,7 +17,7 @@ slice-aggregate-render-2 c = search needs
 
 render-requires : tie.Need-render-requires
 unfolding bytes spell
-render-requires c κs = (omega arith, rw answer-widest (omega (arith, c .before .before .before .before .before .pre)))
+render-requires c κs = (omega arith, render-room _ _ _ _ _ answer-widest (omega (arith, c .before .before .before .before .before .pre)))
 
 put-number-requires : tie.Need-put-number-requires
 unfolding bytes spell
@@ -34,7 +35,7 @@ add-render c = omega (arith, c .before .before .before .before .before .before .
 
 render-requires-2 : tie.Need-render-requires-2
 unfolding bytes spell
-render-requires-2 c κs = (omega arith, rw outcome-widest (omega (arith, c .before .before .before .before .before .before .before .before .before .before .before .before .before .before .before .pre, c .before .before .before .before .before .before .before .before .before .before .before .before .before .width .ensures .1, c .before .before .before .before .before .before .before .before .before .render .kept .1 .1 .1 .0, c .before .before .before .before .before .put-number .kept .0, c .before .before .before .before .before .before .before .before .before .render .ensures .within, answer-widest)))
+render-requires-2 c κs = (omega arith, render-room _ _ _ _ _ outcome-widest (omega (arith, c .before .before .before .before .before .before .before .before .before .before .before .before .before .before .before .pre, c .before .before .before .before .before .before .before .before .before .before .before .before .before .width .ensures .1, c .before .before .before .before .before .before .before .before .before .render .kept .1 .1 .1 .0, c .before .before .before .before .before .put-number .kept .0, c .before .before .before .before .before .before .before .before .before .render .ensures .within, answer-widest)))
 
 same-length : tie.Need-same-length
 same-length c = search needs

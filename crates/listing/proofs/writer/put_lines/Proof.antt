@@ -1,18 +1,17 @@
 use Prim.Native.Nat.{_-_}
 use borrow.Author.Needs.{needs}
 use native.Mathlib.Omega.{arith}
-use Rattle.listing.proofs.Readers.{line-form}
-use Rattle.listing.proofs.Writers.{putting-start, putting-room, putting-more, putting-end, Putting}
-use Rattle.listing.proofs.writer.put_lines.Statement.{statement}
 use Rattle.listing.specs.Forms.{spell, bytes}
-use Rattle.runner.specs.Checks.{countOf}
+use Rattle.listing.proofs.FormatTable.{line-form}
+use Rattle.listing.proofs.Writers.{Putting, putting-start, putting-room, putting-more, putting-end}
+use Rattle.listing.proofs.writer.put_lines.Statement.{statement}
 use Rattle.listing.proofs.writer.put_lines.Tie as tie
 
 abbrev Inv-loop : tie.InvT-loop
-Inv-loop list page₀ place count at₀ k₀ t7 page at k = Putting list place (countOf list) page₀ t7 page at k
+Inv-loop list text₀ place count at₀ k₀ t7 text at k = Putting list place count text₀ t7 text at k
 
 abbrev μ-loop : tie.MeasureT-loop
-μ-loop list page₀ place count at₀ k₀ t7 page at k = countOf list - k
+μ-loop list text₀ place count at₀ k₀ t7 text at k = count - k
 
 loop-holds : tie.Need-loop-holds Inv-loop μ-loop
 unfolding bytes spell
@@ -22,13 +21,13 @@ slice-aggregate-render : tie.Need-slice-aggregate-render Inv-loop μ-loop
 slice-aggregate-render c = search needs
 
 mul-render : tie.Need-mul-render Inv-loop μ-loop
-mul-render c = search needs
+mul-render c = omega arith
 
 render-requires : tie.Need-render-requires Inv-loop μ-loop
-render-requires c κs = (omega arith, putting-room _ _ _ _ _ _ _ _ (c .before .before .before .loop .inv) (omega (arith, c .before .before .before .before .before .before .pre .0)) (c .before .before .before .before .before .before .pre .1) (c .before .before .loop-test .taken))
+render-requires c κs = (omega arith, putting-room _ _ _ _ _ _ _ _ (c .before .before .before .loop .inv) (c .before .before .before .before .before .before .pre .1) (c .before .before .loop-test .taken))
 
 add-k : tie.Need-add-k Inv-loop μ-loop
-add-k c = search needs
+add-k c = omega arith
 
 loop-less : tie.Need-loop-less Inv-loop μ-loop
 loop-less c = omega arith
@@ -40,7 +39,7 @@ same-length : tie.Need-same-length Inv-loop μ-loop
 same-length c = c .before .loop .inv .same
 
 returns : tie.Need-returns Inv-loop μ-loop
-returns c = putting-end _ _ _ _ _ _ _ _ (c .before .loop .inv) (c .loop-test .left) (omega (arith, c .before .before .before .before .pre .0))
+returns c = putting-end _ _ _ _ _ _ _ _ (c .before .loop .inv) (c .loop-test .left)
 
 pub put-lines-spec : {M : Type 1} → statement M
 put-lines-spec =

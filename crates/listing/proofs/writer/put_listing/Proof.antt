@@ -1,11 +1,11 @@
-use borrow.Author.Needs.{needs}
-use mathlib.Core.Path.{ap}
+use lib.ListN.{length}
+use mathlib.Core.Path.{_∙_}
 use native.Mathlib.Omega.{arith}
-use Rattle.listing.proofs.Readers.{header-form}
-use Rattle.listing.proofs.Writers.{header-widest, listing-grows}
-use Rattle.listing.proofs.writer.put_listing.Statement.{statement}
 use Rattle.listing.specs.Forms.{spell, bytes}
-use Rattle.listing.specs.PrivatePlaces.{widest}
+use Rattle.listing.proofs.FormatTable.{head-2-form}
+use Rattle.listing.proofs.Writers.{head-room, head-length, listing-length, listing-put}
+use borrow.Author.Needs.{needs}
+use Rattle.listing.proofs.writer.put_listing.Statement.{statement}
 use Rattle.listing.proofs.writer.put_listing.Tie as tie
 
 cast-count : tie.Need-cast-count
@@ -22,20 +22,19 @@ slice-aggregate-render-2 c = search needs
 
 render-requires : tie.Need-render-requires
 unfolding bytes spell
-render-requires c κs = (omega arith, rw (header-form, header-widest) (omega (arith, c .before .before .before .before .before .before .pre .1)))
+render-requires c κs = (omega arith, rw head-2-form (head-room _ _ _ _ (c .before .before .before .before .before .before .pre .1)))
 
 put-lines-requires : tie.Need-put-lines-requires
 unfolding bytes spell
-put-lines-requires c κs = (c .before .before .before .before .before .before .before .before .before .before .pre .0, omega (arith, c .before .before .before .before .before .before .before .before .before .before .pre .1, c .before .before .before .render .kept .1 .1 .1 .0, c .before .before .before .render .ensures .within, ap widest header-form, header-widest))
+put-lines-requires c κs = (c .before .before .before .before .before .before .before .before .before .before .pre .0, omega (arith, c .before .before .before .before .before .before .before .before .before .before .pre .1, listing-length (c .before .before .before .before .before .before .before .before .before .before .args .s) (c .before .before .before .before .before .before .before .before .before .before .args .list .now), c .before .before .before .render .kept .1 .1 .1 .0, rw head-2-form at (c .before .before .before .render .ensures .grown) .upTo, head-length (c .before .before .before .before .before .before .header-of .result)))
 
 same-length : tie.Need-same-length
 same-length c = search needs
 
 returns : tie.Need-returns
 unfolding bytes spell
-returns c = let g = c .before .before .before .before .before .before .render .ensures .grown in
-    listing-grows (c .before .before .before .before .before .before .before .before .before .before .before .before .before .args .s) (c .before .before .before .before .before .before .before .before .before .before .before .before .before .args .list .now) (c .before .before .before .before .before .before .before .before .before .before .before .before .before .args .page .now) (c .before .before .before .before .before .before .render .last .1 .1 .1 .0) (c .before .before .put-lines .last .1 .0) (c .before .before .before .before .before .before .render .result) (c .before .before .put-lines .result)
-    (rw (header-form, c .before .before .before .before .before .before .before .before .before .header-of .ensures) at g) (c .before .before .put-lines .ensures .grown)
+returns c = let a = c .before .before .before .before .before .before .before .before .before .before .before .before .before .args in
+    listing-put (a .s) (a .list .now) _ _ _ _ _ (rw (head-2-form, c .before .before .before .before .before .before .before .before .before .header-of .ensures) at (c .before .before .before .before .before .before .render .ensures .grown)) (c .before .before .put-lines .ensures)
 
 pub put-listing-spec : {M : Type 1} → statement M
 put-listing-spec =

@@ -1,11 +1,10 @@
-use borrow.Author.Needs.{needs}
 use lib.ListN.{length}
 use mathlib.Core.Path.{refl, _∙_, _≡_}
 use native.Mathlib.Omega.{arith}
-use Rattle.listing.proofs.Rooms.{grown-front}
-use Rattle.listing.proofs.Writers.{few-words, write-refused, write-short, write-done}
+use Rattle.listing.specs.Listing.{acceptedWriting}
+use Rattle.listing.proofs.Writers.{few-words, lines-few, listing-length, write-refused, write-short, write-done}
+use borrow.Author.Needs.{needs}
 use Rattle.listing.proofs.writer.write.Statement.{statement}
-use Rattle.listing.specs.Listing.{listing, acceptedWriting}
 use Rattle.listing.proofs.writer.write.Tie as tie
 
 list-answer-requires : tie.Need-list-answer-requires
@@ -15,38 +14,36 @@ refused-requires : tie.Need-refused-requires
 refused-requires c κs = search needs
 
 returns : tie.Need-returns
-returns c = let e = write-refused (length (c .before .before .before .before .before .before .args .text .now)) (c .before .before .before .before .before .before .args .s) (c .before .before .before .before .before .before .args .list .now) (c .before .before .before .list-answer .result) (c .before .before .before .list-answer .ensures) (c .before .if1 .taken) in
+returns c = let a = c .before .before .before .before .before .before .args in let e = write-refused (length (a .text .now)) (a .s) (a .list .now) (c .before .before .before .list-answer .result) (c .before .before .before .list-answer .ensures) (c .before .if1 .taken) in
     (rw e (c .refused .ensures), rw e refl)
 
-slice-aggregate-put-listing : tie.Need-slice-aggregate-put-listing
-slice-aggregate-put-listing c = search needs
+lines-length-requires : tie.Need-lines-length-requires
+lines-length-requires c κs = few-words (c .before .before .before .before .before .args .s) (c .before .before .before .before .before .args .list .now) (rw (← (c .before .before .list-answer .ensures)) (c .if1 .left))
 
-put-listing-requires : tie.Need-put-listing-requires
-put-listing-requires c κs = (few-words (c .before .before .before .before .before .before .args .s) (c .before .before .before .before .before .before .args .list .now) (rw (← (c .before .before .before .list-answer .ensures)) (c .before .if1 .left)), omega arith)
+add-n : tie.Need-add-n
+add-n c = let a = c .before .before .before .before .before .before .args in omega (arith, c .lines-length .ensures, lines-few (a .list .now), few-words (a .s) (a .list .now) (rw (← (c .before .before .before .list-answer .ensures)) (c .before .if1 .left)))
 
 refused-requires-2 : tie.Need-refused-requires-2
 refused-requires-2 c κs = search needs
 
 returns-2 : tie.Need-returns-2
-returns-2 c = let g = grown-front _ _ _ _ (c .before .before .before .put-listing .ensures) in
-    let e = write-short (length (c .before .before .before .before .before .before .before .before .before .before .args .text .now)) (c .before .before .before .before .before .before .before .before .before .before .args .s) (c .before .before .before .before .before .before .before .before .before .before .args .list .now) (c .before .before .before .before .before .before .before .list-answer .result) (c .before .before .before .before .before .before .before .list-answer .ensures) (c .before .before .before .before .before .if1 .left) (omega (arith, c .before .before .before .put-listing .ensures .upTo)) in
+returns-2 c = let a = c .before .before .before .before .before .before .before .before .args in
+    let e = write-short (length (a .text .now)) (a .s) (a .list .now) (c .before .before .before .before .before .list-answer .result) (c .before .before .before .before .before .list-answer .ensures) (c .before .before .before .if1 .left) (omega (arith, c .before .before .lines-length .ensures, listing-length (a .s) (a .list .now), c .before .if2 .taken)) in
     (rw e (c .refused2 .ensures), rw e refl)
 
-slice-aggregate-copy-bytes : tie.Need-slice-aggregate-copy-bytes
-slice-aggregate-copy-bytes c = search needs
-
-copy-bytes-requires : tie.Need-copy-bytes-requires
-copy-bytes-requires c κs = (grown-front _ _ _ _ (c .before .before .before .before .put-listing .ensures) .1, omega arith)
+put-listing-requires : tie.Need-put-listing-requires
+put-listing-requires c κs = let a = c .before .before .before .before .before .before .before .before .args in
+    (few-words (a .s) (a .list .now) (rw (← (c .before .before .before .before .before .list-answer .ensures)) (c .before .before .before .if1 .left)), omega (arith, c .before .before .lines-length .ensures, listing-length (a .s) (a .list .now), c .before .if2 .left))
 
 same-length : tie.Need-same-length
 same-length c = search needs
 
 returns-3 : tie.Need-returns-3
 unfolding acceptedWriting
-returns-3 c = let g = c .before .before .before .before .before .before .before .put-listing .ensures in
-    let k : c .before .before .before .before .before .before .before .put-listing .result ≡ length (listing (c .before .before .before .before .before .before .before .before .before .before .before .before .before .before .args .s) (c .before .before .before .before .before .before .before .before .before .before .before .before .before .before .args .list .now)) = omega (arith, g .upTo) in
-    let e = write-done (length (c .before .before .before .before .before .before .before .before .before .before .before .before .before .before .args .text .now)) (c .before .before .before .before .before .before .before .before .before .before .before .before .before .before .args .s) (c .before .before .before .before .before .before .before .before .before .before .before .before .before .before .args .list .now) (c .before .before .before .before .before .before .before .before .before .before .before .list-answer .result) (c .before .before .before .before .before .before .before .before .before .before .before .list-answer .ensures) (c .before .before .before .before .before .before .before .before .before .if1 .left) (omega arith) in
-    (rw (e, k) refl, rw e (c .before .before .copy-bytes .ensures ∙ cc (g .front)))
+returns-3 c = let a = c .before .before .before .before .before .before .before .before .before .before .before .args in
+    let k = listing-length (a .s) (a .list .now) in
+    let e = write-done (length (a .text .now)) (a .s) (a .list .now) (c .before .before .before .before .before .before .before .before .list-answer .result) (c .before .before .before .before .before .before .before .before .list-answer .ensures) (c .before .before .before .before .before .before .if1 .left) (omega (arith, c .before .before .before .before .before .lines-length .ensures, k, c .before .before .before .before .if2 .left)) in
+    (rw (e, k, ← (c .before .before .before .before .before .lines-length .ensures)) refl, rw e (c .before .before .put-listing .ensures))
 
 pub write-spec : {M : Type 1} → statement M
 write-spec =
@@ -55,11 +52,10 @@ write-spec =
     list-answer-requires
     refused-requires
     returns
-    slice-aggregate-put-listing
-    put-listing-requires
+    lines-length-requires
+    add-n
     refused-requires-2
     returns-2
-    slice-aggregate-copy-bytes
-    copy-bytes-requires
+    put-listing-requires
     same-length
     returns-3)

@@ -5,7 +5,7 @@ use Rattle.vectors.proofs.made.make_list.Statement.{statement}
 use Rattle.vectors.proofs.made.make_list.Tie as tie
 
 abbrev Inv-loop : tie.InvT-loop
-Inv-loop list₀ given i₀ list i = given ≤ 6160
+Inv-loop list₀ given i₀ list i = given ≤ 98400
 
 abbrev μ-loop : tie.MeasureT-loop
 μ-loop list₀ given i₀ list i = given - i

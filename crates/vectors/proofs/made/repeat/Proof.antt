@@ -8,7 +8,7 @@ abbrev Inv-loop : tie.InvT-loop
 Inv-loop list₀ period i₀ list i = period ≤ i
 
 abbrev μ-loop : tie.MeasureT-loop
-μ-loop list₀ period i₀ list i = 6160 - i
+μ-loop list₀ period i₀ list i = 98400 - i
 
 loop-holds : tie.Need-loop-holds Inv-loop μ-loop
 loop-holds c = search needs

@@ -5,7 +5,7 @@ use Rattle.vectors.proofs.reading_case.add_bytes.Statement.{statement}
 use Rattle.vectors.proofs.reading_case.add_bytes.Tie as tie
 
 abbrev Inv-loop : tie.InvT-loop
-Inv-loop text₀ from end at₀ text at = end ≤ 65700
+Inv-loop text₀ from end at₀ text at = end ≤ 1048700
 
 abbrev μ-loop : tie.MeasureT-loop
 μ-loop text₀ from end at₀ text at = end - at

@@ -5,7 +5,7 @@ use Rattle.vectors.proofs.reading_case.copy.Statement.{statement}
 use Rattle.vectors.proofs.reading_case.copy.Tie as tie
 
 abbrev Inv-loop : tie.InvT-loop
-Inv-loop kept from count text₀ to from' to' count' i₀ text i = (i ≤ count') × ((from' + count' ≤ 65700) × (to' + count' ≤ 65700))
+Inv-loop kept from count text₀ to from' to' count' i₀ text i = (i ≤ count') × ((from' + count' ≤ 1048700) × (to' + count' ≤ 1048700))
 
 abbrev μ-loop : tie.MeasureT-loop
 μ-loop kept from count text₀ to from' to' count' i₀ text i = count' - i
