@@ -1,10 +1,11 @@
 /* Times the proved run beside plain.c, which is C written for speed, and beside the independent program, which says what is right; then
- * walks, and BF16's routine by itself.
+ * walks, listings, and BF16's routine by itself.
  *
  *   bench [ROUNDS [MICROSECONDS]]
  *
  * All must do what the independent program does before they are timed: on random runs, whole and damaged, on single instructions with
- * fields at their limits, and on random walks. */
+ * fields at their limits, on random walks, and on listings, whole and damaged. */
+#include "listings.h"
 #include "lists.h"
 #include "plain.h"
 #include "times.h"
@@ -121,9 +122,11 @@ int main(int argc, char **argv)
     unsigned rounds = argc > 1 ? (unsigned)atoi(argv[1]) : 50, us = argc > 2 ? (unsigned)atoi(argv[2]) : 400;
     compare_random(5000);
     compare_fields();
+    compare_listings(500);
     compare_walks(500);
     print_times(programs, PROGRAMS, rounds, us);
     print_walks(rounds, us);
+    print_listings(rounds, us);
     print_unpacking(unpackers, sizeof unpackers / sizeof *unpackers, rounds, us);
     return 0;
 }

@@ -6,7 +6,7 @@
 #                                       makes an object of the library that rt made in TREE, by the ld and objcopy that TOOLS stands in front of
 #   compile COMPILER PROGRAM WORD...    compiles a C program from this folder's files and the words, objects and flags
 #
-# An OBJECT exports PREFIX_run, which is the library's replay_run, and so for begin, forward and back where the library has them, and
+# An OBJECT exports PREFIX_run, which is the library's replay_run, and so for begin, forward, back, read and write where the library has them, and
 # PREFIX_unpack, which is unpack.ll's loop; and no other name: several fit in one process.
 # On x86-64 the library is target/staticlib/libhost.a, which rt makes, and the loop is added. Elsewhere it is that library's LLVM module, kept
 # on its way through rt's compiler and compiled by that compiler for this processor, with the same optimisation, the loop in it.
@@ -20,7 +20,7 @@ cc=${CC:-gcc}
 # time wherever it lands, and else up to a tenth more or less.
 flags='-std=c11 -O3 -Wall -Wextra -ffp-contract=off -falign-functions=64'
 # What is timed. A commit before M-103 has run alone, and objcopy passes over what is not there.
-timed='run begin forward back unpack'
+timed='run begin forward back read write unpack'
 
 say() { printf 'bench/%s: %s\n' "$(basename "$0")" "$*" >&2; }
 lacks() { say "$@"; exit 2; }

@@ -17,7 +17,7 @@ static const struct shape {
     const char *mods, *vds;     /* NULL: the op's own */
     uint32_t config;            /* bits of LaneConfig that every lane has besides */
     bool alike;                 /* every register starts as 0 or 1.0, which 9 and 10 hold: many pairs are equal */
-    size_t count;               /* 0: as many as a list may have */
+    size_t count;               /* 0: LIST_COUNT */
 } shapes[] = {
     {"mix", .op = 0},
     {"mix, no STORE", .last = NOP},     /* the mix as it was before M-101: these figures compare with those of that time */
@@ -34,7 +34,7 @@ static const struct shape {
     {"LUT mod 8", .op = LUT, .mods = "8"}, {"LUT mod 12", .op = LUT, .mods = "C"},
     {"CONFIG to 8", .op = CONFIG, .vds = "8"}, {"CONFIG to 15", .op = CONFIG, .vds = "F"},
     {"mix, vd to 15", .vds = EVERY},
-    {"mix of 1", .count = 1}, {"mix of 16", .count = 16}, {"mix of 256", .count = 256},
+    {"mix of 1", .count = 1}, {"mix of 16", .count = 16}, {"mix of 256", .count = 256}, {"mix of 16384", .count = LIST_MOST},
 };
 
 /* A small generator, so that every machine times the same lists. */
@@ -109,7 +109,7 @@ const struct list *make_list(unsigned k, uint32_t last)
     for (unsigned i = 0; i < LIST_DST; i++) list_dst[i] = (uint16_t)any(65536);
     made.name = s->name;
     made.narrow = s->last != 0 || s->mods != NULL || s->vds != NULL || s->config != 0 || s->alike;
-    made.count = s->op > last ? 0 : s->count ? s->count : MAX_INSNS;
+    made.count = s->op > last ? 0 : s->count ? s->count : LIST_COUNT;
     if (s->last != 0 && s->last < last) last = s->last;
     for (unsigned i = 0; i < made.count; i++) make_insn(s, last, made.words + 6 * i);
     return &made;

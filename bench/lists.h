@@ -6,7 +6,10 @@
 #include <stddef.h>
 #include <stdint.h>
 
-enum { LIST_IMAGE = 768, LIST_DST = 16384, LIST_WORDS = 6144 };
+enum { LIST_IMAGE = 768, LIST_DST = 16384 };
+
+/* The instructions of a list that says nothing else, and of the longest one. */
+enum { LIST_COUNT = 1024, LIST_MOST = 16384 };
 
 /* In a quiet image every lane is enabled and LaneConfig is 0; in a mixed one flags and the meaning bits of LaneConfig differ by lane. */
 enum image_kind { QUIET, MIXED, IMAGE_KINDS };
@@ -15,7 +18,7 @@ struct list {
     const char *name;
     bool narrow;                                        /* not of all that its op allows, or not of all ops */
     size_t count;                                       /* instructions; 0: an op past `last` */
-    uint32_t words[LIST_WORDS];                         /* six an instruction */
+    uint32_t words[6 * LIST_MOST];                      /* six an instruction */
     uint32_t image[IMAGE_KINDS][LIST_IMAGE];
 };
 

@@ -9,7 +9,7 @@
 #include <stdbool.h>
 #include <string.h>
 
-enum { LANES = 32, COLUMNS = 8, IMAGE_WORDS = 768, DST_CELLS = 16384, MAX_INSNS = 1024 };
+enum { LANES = 32, COLUMNS = 8, IMAGE_WORDS = 768, DST_CELLS = 16384, MAX_INSNS = 16384 };
 
 enum { LOAD = 1, LOADI, LUT, SWAP, CONFIG, IADD, ABS, AND, OR, XOR, NOT, LZ, EXEXP, EXMAN, NOP, STORE };
 

@@ -22,7 +22,7 @@ struct program {
 /* Times every list, in rounds of about `us` microseconds for each program, and prints a table in Markdown: ns an instruction of each program
  * and the first one's time over each other's, from a mixed image; then the first one's over the second's from a quiet one.
  * Where two programs do not agree, the process ends with a complaint: a fast wrong answer is not a time. Ops that one of them
- * does not know are left out, and ties that one of them does not count are not compared with it. */
+ * does not know are left out, and lists that are too long for one, and ties that one of them does not count are not compared with it. */
 void print_times(const struct program *programs, unsigned count, unsigned rounds, unsigned us);
 
 double now_ns(void);

@@ -110,7 +110,7 @@ void compare_walks(unsigned count)
 static struct lent {
     _Alignas(64) uint32_t image[LIST_IMAGE];
     _Alignas(64) uint16_t dst[LIST_DST];
-    _Alignas(64) uint32_t store[ENTRY * MAX_INSNS];
+    _Alignas(64) uint32_t store[ENTRY * LIST_COUNT];
     uint32_t walk[2];
 } lent;
 
@@ -236,7 +236,7 @@ void print_walks(unsigned rounds, unsigned us)
     const struct list *l;
     double ns[JOBS][rounds], parts[rounds];
     for (unsigned k = 0; (l = make_list(k, OPS - 1)) != NULL; k++) {
-        if (l->narrow) continue;
+        if (l->narrow || l->count > LIST_COUNT) continue;
         struct task tasks[JOBS];
         must_agree(l, MIXED);
         for (unsigned i = 0; i < JOBS; i++) tasks[i] = (struct task){several, &jobs[i], l->count, l, MIXED};

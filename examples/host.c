@@ -10,7 +10,7 @@ static uint16_t dst[REPLAY_DST];
 
 /* A listing: CONFIG fills register 12, in column 0 alone, with the constant of edition 1. */
 static const char listing[] =
-    "edition=1\nsrcb=2\noffset=0000\ncursor=0000\nstride0=0000\nstride1=0000\nstride2=0000\nstride3=0000\ncount=0001\n"
+    "format=2\nedition=1\nsrcb=2\noffset=0000\ncursor=0000\nstride0=0000\nstride1=0000\nstride2=0000\nstride3=0000\ncount=00001\n"
     "op=CONFIG imm=00001 vb=00 vc=00 vd=12 mod=09\n";
 
 /* A list as words, six an instruction: register 1 becomes 40 in every lane, register 2 becomes 40 plus twice the lane's number. */

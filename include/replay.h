@@ -1,8 +1,8 @@
 /* The replay for C and C++. bin/install makes libreplay.a and libreplay.so, for x86-64; replay_text.h has names to print.
  *
  * Everything is lent by the caller. The library keeps nothing between calls, allocates nothing, and writes only to what is passed without
- * `const`. Parts lent to one call must not overlap. Calls that share nothing writable, no Dst either, may run at the same time. On the
- * stack, running and walking take some 2 KB, reading 26, writing 48 and a report 90.
+ * `const`. Parts lent to one call must not overlap. Calls that share nothing writable, no Dst either, may run at the same time. Of the
+ * stack a report takes less than 80 KB, and every other call less than 2 KB, however long its list or its listing is.
  *
  * Pointers. A length counts elements, not bytes. A part that comes with a length may be NULL where that length is 0, as the data() of an
  * empty std::vector often is: nothing is read or written through it. Every other pointer (settings, outcome, walk, insn, own, head,
@@ -21,16 +21,16 @@ extern "C" {
 
 /* What is replayed: 1000 is document 01 by itself, and 1000 plus n is with the requests up to M-n. A later request may change what a word
  * means, so a host that loads the library at run time compares this with replay_version(). */
-#define REPLAY_VERSION 1103
+#define REPLAY_VERSION 1105
 
 /* The words of an image, the cells of a Dst, the words of a walk's entry and of the longest list, and the bytes of the longest listing and
  * report. */
 #define REPLAY_IMAGE 768
 #define REPLAY_DST 16384
 #define REPLAY_ENTRY 802
-#define REPLAY_LIST 6144
-#define REPLAY_TEXT 46184
-#define REPLAY_REPORT 11188
+#define REPLAY_LIST 98304
+#define REPLAY_TEXT 737394
+#define REPLAY_REPORT 11190
 
 /* The lanes of a register, and their columns; lane L is in row L / 8, column L % 8. */
 #define REPLAY_LANES 32
@@ -43,13 +43,13 @@ enum replay_answer {
     REPLAY_BAD_DST_LENGTH = 2,          /* Dst not 16,384 cells */
     REPLAY_BAD_SETTING = 3,             /* a setting outside its range */
     REPLAY_BAD_LIST_LENGTH = 4,         /* list length not a multiple of six */
-    REPLAY_TOO_MANY = 5,                /* more than 1,024 instructions */
+    REPLAY_TOO_MANY = 5,                /* more than 16,384 instructions, in an old listing more than 1,024 */
     REPLAY_BAD_IMAGE = 6,               /* image not well formed */
     REPLAY_UNKNOWN_OP = 7,              /* unknown op */
     REPLAY_BAD_FIELD = 8,               /* a field outside its range, an unused field not 0, or mod not allowed */
     REPLAY_BAD_LOAD_MOD = 9,            /* LOAD mod 3, 4, 10 or 12 */
     REPLAY_BAD_TEXT = 10,               /* listing text faulty */
-    REPLAY_TOO_LONG = 11,               /* listing over 65,536 bytes, or lent room too short */
+    REPLAY_TOO_LONG = 11,               /* listing over 1,048,576 bytes, in the program over 65,536, or room too short */
     REPLAY_NO_STEP = 12                 /* step forward from the end or with fewer than 802 free words in the store, or back from the start */
 };
 
@@ -178,7 +178,7 @@ uint32_t replay_begin(const uint32_t settings[8], const uint32_t *image, size_t 
  *
  *   settings, list    as replay_begin was lent them; the cursor is the walk's from then on
  *   image, dst, walk  as the call before left them
- *   store             room for the entries: REPLAY_ENTRY words an instruction are always enough, 821,248 for the longest list
+ *   store             room for the entries: REPLAY_ENTRY words an instruction are always enough, 13,139,968 for the longest list
  *
  * Done, forward: image and Dst are those after instruction `at`, whose entry is in the store, and the other words of the store stay; the walk
  * is at `at` + 1, with the new cursor.
@@ -213,23 +213,27 @@ uint32_t replay_back(const uint32_t settings[8], uint32_t *image, size_t image_l
 uint32_t replay_lane(const uint32_t settings[8], uint32_t lane, const uint32_t insn[6], uint32_t own[24], const uint32_t head[24],
                      uint16_t cells[2]);
 
-/* Reads a listing.
+/* Reads a listing, of format 2 or an old one. A text whose first line is format=2, with its LF, is of format 2: its count has five digits, and
+ * its limit is 16,384 instructions. Any other text is read as an old listing, which has no such line: its count has four digits, and its
+ * limit is 1,024. All ops may stand in either.
  *
- *   text      the listing, at most 65,536 bytes
- *   list      room for six words an instruction: REPLAY_LIST words are always enough
+ *   text      the listing, at most 1,048,576 bytes
+ *   list      room for six words an instruction: REPLAY_LIST words are always enough, and so are six for each line of the text
  *   settings  becomes the listing's settings, in its order
  *   outcome   answer, steps, place, cursor, length
  *
  * Done: the first `length` words of `list` are the list, and the words past them stay; steps and place are 0, and cursor is the listing's.
- * Refused, by 3, 5, 8, 9, 10 or 11: `list` is untouched and length is 0. settings is 0 but for the cursor, which is also the outcome's: as
- * read for 3, 5, 8 and 9, else 0. place is the index of the instruction from 0 for 8 and 9, the line from 1 for 10, else 0. */
+ * Refused, by 3, 5 (the format's limit), 8, 9, 10 or 11: `list` is untouched and length is 0. settings is 0 but for the cursor, which is also
+ * the outcome's: as read for 3, 5, 8 and 9, else 0. place is the index of the instruction from 0 for 8 and 9; for 10 it is the line from 1
+ * in the text as it stands, where the instructions begin at line 11 of format 2 and at line 10 of an old listing; else 0. */
 uint32_t replay_read(const uint8_t *text, size_t text_len, uint32_t *list, size_t list_len, uint32_t settings[8], uint32_t outcome[5]);
 
-/* Writes a listing.
+/* Writes a listing, always of format 2. What was read from format 2 is written byte for byte again; what was read from an old listing is
+ * written as its rewritten form, which reads to the same settings and list.
  *
  *   settings  as for a run
  *   list      six words an instruction
- *   text      room for the whole listing: REPLAY_TEXT bytes are always enough
+ *   text      room for the whole listing: REPLAY_TEXT bytes are always enough, and so are 114 and 45 for each instruction
  *   outcome   answer, steps, place, cursor, length
  *
  * Done: the first `length` bytes of `text` are the listing, with no zero after it, and the bytes past them stay; steps and place are 0, and
@@ -238,9 +242,11 @@ uint32_t replay_read(const uint8_t *text, size_t text_len, uint32_t *list, size_
  * cursor is the one given, for 11 it is 0. */
 uint32_t replay_write(const uint32_t settings[8], const uint32_t *list, size_t list_len, uint8_t *text, size_t text_len, uint32_t outcome[5]);
 
-/* The program's whole output for a listing, which it runs from an image and a Dst of zeros.
+/* The program's whole output for a listing, which it runs from an image and a Dst of zeros. The program holds less than the library: a text
+ * over 65,536 bytes, of either format, is refused by 11 before anything else, and a list of more than 1,024 instructions, which only format 2
+ * can have, by 11 last of all. An old listing's count above 1,024 is refused by 5.
  *
- *   text      the listing
+ *   text      the listing, of format 2 or an old one
  *   room      room for the report: REPLAY_REPORT bytes are always enough
  *   length    becomes the bytes of the report
  *

@@ -37,13 +37,13 @@ static inline const char *replay_refusal_text(uint32_t answer)
     case REPLAY_BAD_DST_LENGTH: return "Dst not 16,384 cells";
     case REPLAY_BAD_SETTING: return "a setting outside its range";
     case REPLAY_BAD_LIST_LENGTH: return "list length not a multiple of six";
-    case REPLAY_TOO_MANY: return "more than 1,024 instructions";
+    case REPLAY_TOO_MANY: return "more than 16,384 instructions, in an old listing more than 1,024";
     case REPLAY_BAD_IMAGE: return "image not well formed";
     case REPLAY_UNKNOWN_OP: return "unknown op";
     case REPLAY_BAD_FIELD: return "a field outside its range, an unused field not 0, or mod not allowed";
     case REPLAY_BAD_LOAD_MOD: return "LOAD mod 3, 4, 10 or 12";
     case REPLAY_BAD_TEXT: return "listing text faulty";
-    case REPLAY_TOO_LONG: return "listing over 65,536 bytes, or lent room too short";
+    case REPLAY_TOO_LONG: return "listing over 1,048,576 bytes, in the program over 65,536, or room too short";
     case REPLAY_NO_STEP: return "step forward from the end or with fewer than 802 free words in the store, or back from the start";
     default: return "unknown";
     }

@@ -20,8 +20,8 @@ import os
 from array import array
 from dataclasses import astuple, dataclass
 
-VERSION = 1103
-IMAGE, DST, ENTRY, LIST, TEXT, REPORT, LANES, COLUMNS = 768, 16384, 802, 6144, 46184, 11188, 32, 8
+VERSION = 1105
+IMAGE, DST, ENTRY, LIST, TEXT, REPORT, LANES, COLUMNS = 768, 16384, 802, 98304, 737394, 11190, 32, 8
 
 # The ops by number, and the answers in the clerk's words.
 OPS = (None, "LOAD", "LOADI", "LUT", "SWAP", "CONFIG", "IADD", "ABS", "AND", "OR", "XOR", "NOT", "LZ", "EXEXP", "EXMAN", "NOP", "STORE")
@@ -31,13 +31,13 @@ ANSWERS = (
     "Dst not 16,384 cells",
     "a setting outside its range",
     "list length not a multiple of six",
-    "more than 1,024 instructions",
+    "more than 16,384 instructions, in an old listing more than 1,024",
     "image not well formed",
     "unknown op",
     "a field outside its range, an unused field not 0, or mod not allowed",
     "LOAD mod 3, 4, 10 or 12",
     "listing text faulty",
-    "listing over 65,536 bytes, or lent room too short",
+    "listing over 1,048,576 bytes, in the program over 65,536, or room too short",
     "step forward from the end or with fewer than 802 free words in the store, or back from the start",
 )
 
@@ -139,23 +139,25 @@ def lane(settings, lane, insn, own, head, cells):
 
 
 def read(text):
-    """The settings, the list and the outcome of reading a listing."""
-    words, settings, outcome = _zeros(LIST), _zeros(8), _zeros(5)
+    """The settings, the list and the outcome of reading a listing, of format 2 or an old one."""
+    words = _zeros(min(6 * text.count(b"\n"), LIST))  # each instruction has its line
+    settings, outcome = _zeros(8), _zeros(5)
     _library.replay_read(text, len(text), *_part(words, "I"), _fixed(settings, 8), _fixed(outcome, 5))
     outcome = Outcome(*outcome)
     return Settings(*settings), words[: outcome.length], outcome
 
 
 def write(settings, words):
-    """The listing of a list, and the outcome of writing it."""
-    words, room, outcome = array("I", words), array("B", bytes(TEXT)), _zeros(5)
+    """The listing of a list, in format 2, and the outcome of writing it."""
+    words, outcome = array("I", words), _zeros(5)
+    room = array("B", bytes(min(114 + 45 * (len(words) // 6), TEXT)))  # the header's bytes, and the longest line's
     _library.replay_write(_settings(settings), *_part(words, "I"), *_part(room, "B"), _fixed(outcome, 5))
     outcome = Outcome(*outcome)
     return room[: outcome.length].tobytes(), outcome
 
 
 def report(text):
-    """The program's whole output for a listing, and the answer in it."""
+    """The program's whole output for a listing, and the answer in it. The program holds at most 65,536 bytes and 1,024 instructions."""
     room, length = array("B", bytes(REPORT)), ctypes.c_size_t()
     answer = _library.replay_report(text, len(text), *_part(room, "B"), ctypes.byref(length))
     return room[: length.value].tobytes(), answer

@@ -1,19 +1,31 @@
-/* The library as a host meets it, in the common part of C11 and C++17: tests/library compiles and runs it, one topic a run.
+/* The library as a host meets it, in the common part of C11 and C++17, with POSIX threads and gcc's word for where a frame lies: tests/library
+ * compiles and runs it, one topic a run.
  *
  * A topic ends with status 0 if all holds; else what does not is printed. `names` prints the names for the script to compare. */
+#ifndef _GNU_SOURCE
+#define _POSIX_C_SOURCE 200809L /* for threads with a stack that is lent */
+#endif
+
 #include "replay.h"
 #include "replay_text.h"
 
+#include <pthread.h>
 #include <stdio.h>
 #include <stdlib.h>
 #include <string.h>
 
-enum { LAST_OP = REPLAY_OP_STORE, LAST_ANSWER = REPLAY_NO_STEP, LONGEST = REPLAY_LIST / 6 };
+/* The most instructions of a list, and what an old listing and the program hold; the most bytes of a text, for the library and the program. */
+enum { LAST_OP = REPLAY_OP_STORE, LAST_ANSWER = REPLAY_NO_STEP, LONGEST = REPLAY_LIST / 6, FEW = 1024, BYTES = 1048576, FEW_BYTES = 65536 };
 
-/* The outcome has room for a run's; reading and writing take the first five words, and the start of a walk the first four. */
+/* The bytes of stack that the header allows a call, and a report. */
+enum { STACK = 2 * 1024, REPORT_STACK = 80 * 1024 };
+
+/* The outcome has room for a run's; reading and writing take the first five words, and the start of a walk the first four. Of the entries a
+ * topic has the first `lent` words. */
 static uint32_t image[REPLAY_IMAGE], list[REPLAY_LIST], settings[8], outcome[12], walk[2], entries[REPLAY_ENTRY * LONGEST];
 static uint16_t dst[REPLAY_DST];
-static uint8_t text[REPLAY_TEXT], room[REPLAY_REPORT + 1];
+static uint8_t text[BYTES + 1], room[REPLAY_REPORT + 1];
+static size_t lent;
 static int failures;
 
 static void expect(int holds, const char *what, unsigned n)
@@ -40,6 +52,13 @@ static int untouched(unsigned from)
     for (unsigned i = from; i < sizeof outcome / sizeof *outcome; i++)
         if (outcome[i] != 0xA5A5A5A5) return 0;
     return 1;
+}
+
+static int is_painted(const void *part, size_t bytes)
+{
+    const uint8_t *byte = (const uint8_t *)part;
+    while (bytes > 0 && byte[bytes - 1] == 0xA5) bytes--;
+    return bytes == 0;
 }
 
 static uint32_t run_one(uint32_t op, uint32_t imm, uint32_t vc, uint32_t vd, uint32_t mod)
@@ -103,8 +122,8 @@ static void answers(void)
 /* The words of settings, instruction and outcome are where the header says. */
 static void words(void)
 {
-    static const char listing[] = "edition=2\nsrcb=1\noffset=0003\ncursor=0004\nstride0=0005\nstride1=0006\nstride2=0007\nstride3=0008\n"
-                                  "count=0002\nop=LOAD imm=00012 vb=01 vc=00 vd=00 mod=02\nop=AND imm=00000 vb=09 vc=10 vd=11 mod=01\n";
+    static const char listing[] = "format=2\nedition=2\nsrcb=1\noffset=0003\ncursor=0004\nstride0=0005\nstride1=0006\nstride2=0007\nstride3=0008\n"
+                                  "count=00002\nop=LOAD imm=00012 vb=01 vc=00 vd=00 mod=02\nop=AND imm=00000 vb=09 vc=10 vd=11 mod=01\n";
     poison();
     expect(replay_read((const uint8_t *)listing, strlen(listing), list, REPLAY_LIST, settings, outcome) == REPLAY_DONE, "read", 0);
     expect(untouched(REPLAY_OUTCOME_LENGTH + 1), "five words of reading", 0);
@@ -128,10 +147,11 @@ static void words(void)
            outcome[REPLAY_OUTCOME_CURSOR] == 4, "the outcome of a refusal", 0);
 }
 
-/* The rooms that the header calls enough are enough for the longest list, listing and report. */
+/* The rooms that the header calls enough are enough for the longest list, listing and report; in a word or a byte less, nothing. */
 static void sizes(void)
 {
     static const uint32_t registers[12] = {0, 1, 2, 3, 4, 5, 6, 7, 11, 12, 13, 14};
+    static uint8_t again[REPLAY_TEXT];
     size_t length = 0;
     start();
     for (size_t i = 0; i < REPLAY_LIST; i += 6) {
@@ -142,16 +162,292 @@ static void sizes(void)
         list[i + REPLAY_INSN_VD] = vd;
         list[i + REPLAY_INSN_MOD] = vd < 8 ? 8 : 1;
     }
-    expect(replay_write(settings, list, REPLAY_LIST, text, REPLAY_TEXT, outcome) == REPLAY_DONE, "written", outcome[REPLAY_OUTCOME_LENGTH]);
+    expect(replay_write(settings, list, 6 * FEW, text, REPLAY_TEXT, outcome) == REPLAY_DONE, "written", outcome[REPLAY_OUTCOME_LENGTH]);
     expect(replay_report(text, outcome[REPLAY_OUTCOME_LENGTH], room, REPLAY_REPORT, &length) == REPLAY_DONE, "every word reported", (unsigned)length);
     for (size_t i = 0; i < REPLAY_LIST; i += 6) {
         list[i + REPLAY_INSN_OP] = REPLAY_OP_CONFIG;    /* the longest name */
         list[i + REPLAY_INSN_MOD] = 1;
     }
+    settings[REPLAY_SETTING_CURSOR] = 5;
+    memset(text, 0xA5, sizeof text);
+    expect(replay_write(settings, list, REPLAY_LIST, text, REPLAY_TEXT - 1, outcome) == REPLAY_TOO_LONG, "a byte too short", 11);
+    expect(outcome[REPLAY_OUTCOME_LENGTH] == 0 && outcome[REPLAY_OUTCOME_CURSOR] == 0 && is_painted(text, sizeof text), "and nothing written", 11);
     expect(replay_write(settings, list, REPLAY_LIST, text, REPLAY_TEXT, outcome) == REPLAY_DONE, "the longest written", outcome[REPLAY_OUTCOME_ANSWER]);
-    expect(outcome[REPLAY_OUTCOME_LENGTH] == REPLAY_TEXT, "and is that long", outcome[REPLAY_OUTCOME_LENGTH]);
+    expect(outcome[REPLAY_OUTCOME_LENGTH] == REPLAY_TEXT && outcome[REPLAY_OUTCOME_CURSOR] == 5, "and is that long", outcome[REPLAY_OUTCOME_LENGTH]);
+    expect(is_painted(text + REPLAY_TEXT, sizeof text - REPLAY_TEXT), "the bytes past it stay", 0);
+    memset(list, 0xA5, sizeof list);
+    expect(replay_read(text, REPLAY_TEXT, list, REPLAY_LIST - 1, settings, outcome) == REPLAY_TOO_LONG, "a word too short", 11);
+    expect(outcome[REPLAY_OUTCOME_LENGTH] == 0 && outcome[REPLAY_OUTCOME_CURSOR] == 0 && is_painted(list, sizeof list), "and nothing read", 11);
     expect(replay_read(text, REPLAY_TEXT, list, REPLAY_LIST, settings, outcome) == REPLAY_DONE, "and read", outcome[REPLAY_OUTCOME_ANSWER]);
     expect(outcome[REPLAY_OUTCOME_LENGTH] == REPLAY_LIST, "to a list that long", outcome[REPLAY_OUTCOME_LENGTH]);
+    expect(replay_write(settings, list, REPLAY_LIST, again, REPLAY_TEXT, outcome) == REPLAY_DONE, "and written again", outcome[REPLAY_OUTCOME_ANSWER]);
+    expect(memcmp(text, again, REPLAY_TEXT) == 0, "byte for byte", 0);
+}
+
+static void expect_outcome(uint32_t answer, uint32_t count, uint32_t place, uint32_t cursor, const char *what)
+{
+    expect(outcome[REPLAY_OUTCOME_ANSWER] == answer && outcome[REPLAY_OUTCOME_STEPS] == count && outcome[REPLAY_OUTCOME_PLACE] == place &&
+           outcome[REPLAY_OUTCOME_CURSOR] == cursor, what, answer);
+}
+
+/* A run, a walk and a listing take 16,384 instructions and no more; a length that is not a multiple of six comes before that. */
+static void limits(void)
+{
+    static const size_t given[5] = {REPLAY_LIST - 6, REPLAY_LIST, REPLAY_LIST + 6, REPLAY_LIST + 5, REPLAY_LIST + 7};
+    static const uint32_t wanted[5] = {REPLAY_DONE, REPLAY_DONE, REPLAY_TOO_MANY, REPLAY_BAD_LIST_LENGTH, REPLAY_BAD_LIST_LENGTH};
+    static uint32_t words[REPLAY_LIST + 12];
+    start();
+    settings[REPLAY_SETTING_CURSOR] = 5;
+    for (unsigned k = 0; k < LONGEST + 2; k++) words[6 * k + REPLAY_INSN_OP] = REPLAY_OP_NOP;
+    for (unsigned i = 0; i < 5; i++) {
+        uint32_t answer = wanted[i], count = answer == REPLAY_DONE ? (uint32_t)(given[i] / 6) : 0;
+        expect(replay_run(settings, image, REPLAY_IMAGE, dst, REPLAY_DST, words, given[i], outcome) == answer, "a run", i);
+        expect_outcome(answer, count, 0, 5, "its outcome");
+        walk[REPLAY_WALK_AT] = 7;
+        expect(replay_begin(settings, image, REPLAY_IMAGE, dst, REPLAY_DST, words, given[i], outcome, walk) == answer, "a walk", i);
+        expect_outcome(answer, 0, 0, 5, "its start's outcome");
+        expect(walk[REPLAY_WALK_AT] == (answer == REPLAY_DONE ? 0 : 7), "and where it stands", i);
+        memset(text, 0xA5, sizeof text);
+        expect(replay_write(settings, words, given[i], text, sizeof text, outcome) == answer, "a listing", i);
+        expect_outcome(answer, 0, 0, 5, "its outcome");
+        expect(outcome[REPLAY_OUTCOME_LENGTH] == (answer == REPLAY_DONE ? 114 + 42 * count : 0), "its length", i);
+        expect(answer == REPLAY_DONE || is_painted(text, sizeof text), "a refusal leaves the text", i);
+    }
+    words[REPLAY_LIST - 6 + REPLAY_INSN_IMM] = 1;
+    expect(replay_run(settings, image, REPLAY_IMAGE, dst, REPLAY_DST, words, REPLAY_LIST, outcome) == REPLAY_BAD_FIELD, "the last instruction of a run", 8);
+    expect_outcome(REPLAY_BAD_FIELD, 0, LONGEST - 1, 5, "its place");
+    expect(replay_begin(settings, image, REPLAY_IMAGE, dst, REPLAY_DST, words, REPLAY_LIST, outcome, walk) == REPLAY_BAD_FIELD, "of a walk", 8);
+    expect_outcome(REPLAY_BAD_FIELD, 0, LONGEST - 1, 5, "its place");
+    expect(replay_write(settings, words, REPLAY_LIST, text, sizeof text, outcome) == REPLAY_BAD_FIELD, "of a listing", 8);
+    expect_outcome(REPLAY_BAD_FIELD, 0, LONGEST - 1, 5, "its place");
+}
+
+/* A text, put together part by part. */
+static size_t size;
+
+static void add(const char *part)
+{
+    size_t length = strlen(part);
+    memcpy(text + size, part, length);
+    size += length;
+}
+
+/* A listing: its first line, the settings, its count, and so many NOPs. */
+static void compose(const char *first, const char *count, unsigned lines)
+{
+    size = 0;
+    add(first);
+    add("edition=1\nsrcb=2\noffset=0000\ncursor=0005\nstride0=0000\nstride1=0000\nstride2=0000\nstride3=0000\n");
+    add(count);
+    for (unsigned i = 0; i < lines; i++) add("op=NOP imm=00000 vb=00 vc=00 vd=00 mod=00\n");
+}
+
+/* The text gives that answer, place, and cursor; a refusal leaves the list and gives no other setting. */
+static void reads(uint32_t answer, uint32_t place, uint32_t cursor, const char *what)
+{
+    uint32_t wanted[8] = {1, 2, 0, cursor}, none[8] = {0, 0, 0, cursor};
+    memset(list, 0xA5, sizeof list);
+    memset(settings, 0xA5, sizeof settings);
+    poison();
+    expect(replay_read(text, size, list, REPLAY_LIST, settings, outcome) == answer, what, outcome[REPLAY_OUTCOME_ANSWER]);
+    expect(outcome[REPLAY_OUTCOME_PLACE] == place, what, outcome[REPLAY_OUTCOME_PLACE]);
+    expect_outcome(answer, 0, place, cursor, what);
+    expect(memcmp(settings, answer == REPLAY_DONE ? wanted : none, sizeof settings) == 0, "the settings", answer);
+    uint32_t length = outcome[REPLAY_OUTCOME_LENGTH];
+    expect(answer == REPLAY_DONE || length == 0, "no list", length);
+    for (uint32_t i = 0; i < length; i++) expect(list[i] == (i % 6 == REPLAY_INSN_OP ? (uint32_t)REPLAY_OP_NOP : 0), "the list", i);
+    expect(is_painted(list + length, sizeof list - length * sizeof *list), "the words past it stay", length);
+}
+
+static void reads_listing(const char *first, const char *count, unsigned lines, uint32_t answer, uint32_t place)
+{
+    compose(first, count, lines);
+    reads(answer, place, answer == REPLAY_BAD_TEXT ? 0 : 5, count);
+    expect(outcome[REPLAY_OUTCOME_LENGTH] == (answer == REPLAY_DONE ? 6 * lines : 0), "its length", lines);
+}
+
+/* Either format is read up to its limit, with its own digits, and 10 names the line of the text as it stands. */
+static void formats(void)
+{
+    static const char two[] = "format=2\n";
+    reads_listing("", "count=0000\n", 0, REPLAY_DONE, 0);
+    reads_listing("", "count=1024\n", FEW, REPLAY_DONE, 0);
+    reads_listing("", "count=1025\n", FEW + 1, REPLAY_TOO_MANY, 0);
+    reads_listing("", "count=9999\n", 0, REPLAY_TOO_MANY, 0);
+    reads_listing("", "count=00002\n", 2, REPLAY_BAD_TEXT, 9);
+    reads_listing("", "count=16384\n", LONGEST, REPLAY_BAD_TEXT, 9);
+    reads_listing("", "count=0002\n", 1, REPLAY_BAD_TEXT, 11);
+    reads_listing("", "count=0002\n", 3, REPLAY_BAD_TEXT, 12);
+    reads_listing("", "count=0002\n\n", 2, REPLAY_BAD_TEXT, 10);
+    reads_listing(two, "count=00000\n", 0, REPLAY_DONE, 0);
+    reads_listing(two, "count=01024\n", FEW, REPLAY_DONE, 0);
+    reads_listing(two, "count=01025\n", FEW + 1, REPLAY_DONE, 0);
+    reads_listing(two, "count=16384\n", LONGEST, REPLAY_DONE, 0);
+    reads_listing(two, "count=16385\n", LONGEST + 1, REPLAY_TOO_MANY, 0);
+    reads_listing(two, "count=99999\n", 0, REPLAY_TOO_MANY, 0);
+    reads_listing(two, "count=0002\n", 2, REPLAY_BAD_TEXT, 10);
+    reads_listing(two, "count=000002\n", 2, REPLAY_BAD_TEXT, 10);
+    reads_listing(two, "count=00002\n", 1, REPLAY_BAD_TEXT, 12);
+    reads_listing(two, "count=00002\n", 3, REPLAY_BAD_TEXT, 13);
+    reads_listing(two, "count=00002\n\n", 2, REPLAY_BAD_TEXT, 11);
+    reads_listing(two, "count=16384\n", LONGEST - 1, REPLAY_BAD_TEXT, 11 + LONGEST - 1);
+    reads_listing(two, "count=16384\n", LONGEST + 1, REPLAY_BAD_TEXT, 11 + LONGEST);
+    reads_listing(two, "count=00002\r\n", 2, REPLAY_BAD_TEXT, 10);
+
+    compose(two, "count=16384\n", LONGEST - 1);
+    add("op=NOP imm=00000 vb=00 vc=00 vd=00 mod=01\n");
+    reads(REPLAY_BAD_FIELD, LONGEST - 1, 5, "the last field");
+    compose("", "count=1024\n", FEW - 1);
+    add("op=NOP imm=00000 vb=00 vc=00 vd=00 mod=01\n");
+    reads(REPLAY_BAD_FIELD, FEW - 1, 5, "the last field of an old listing");
+}
+
+/* What is not exactly the line format=2 is the first line of an old listing, and so not in form. */
+static void first_lines(void)
+{
+    static const char *const others[] = {"format=1\n", "format=3\n", "format=2\r\n", "format=2 \n", " format=2\n", "FORMAT=2\n", "Format=2\n",
+                                         "format=02\n", "format=\n", "format=2", "format 2\n", "\n", "\nformat=2\n", "\xEF\xBB\xBF" "format=2\n"};
+    for (unsigned i = 0; i < sizeof others / sizeof *others; i++) {
+        compose(others[i], "count=0001\n", 1);
+        reads(REPLAY_BAD_TEXT, 1, 0, others[i]);
+        compose(others[i], "count=00001\n", 1);
+        reads(REPLAY_BAD_TEXT, 1, 0, others[i]);
+    }
+    compose("format=2\nformat=2\n", "count=00001\n", 1);
+    reads(REPLAY_BAD_TEXT, 2, 0, "the line twice");
+    size = 0;
+    reads(REPLAY_BAD_TEXT, 1, 0, "no text");
+    add("format=2");
+    reads(REPLAY_BAD_TEXT, 1, 0, "the line without its LF");
+    add("\n");
+    reads(REPLAY_BAD_TEXT, 2, 0, "the line alone");
+    add("edition=1\n");
+    reads(REPLAY_BAD_TEXT, 3, 0, "and one more");
+}
+
+/* The length of a text is tried before anything else: 1,048,576 bytes are not too long. */
+static void lengths(void)
+{
+    static const char *const firsts[2] = {"", "format=2\n"}, *const counts[2] = {"count=1024\n", "count=16384\n"};
+    static const unsigned most[2] = {FEW, LONGEST};
+    for (unsigned i = 0; i < 2; i++) {
+        compose(firsts[i], counts[i], most[i]);
+        memset(text + size, '\n', sizeof text - size);
+        size = BYTES;
+        reads(REPLAY_BAD_TEXT, 10 + i + most[i], 0, "the longest text");
+        size = BYTES + 1;
+        reads(REPLAY_TOO_LONG, 0, 0, "a byte more");
+    }
+    compose("", "count=1025\n", 0);
+    size = BYTES + 1;
+    reads(REPLAY_TOO_LONG, 0, 0, "11 before 5");
+    memset(text, 'x', sizeof text);
+    reads(REPLAY_TOO_LONG, 0, 0, "and before 10");
+    size = BYTES;
+    reads(REPLAY_BAD_TEXT, 1, 0, "a line without end");
+}
+
+/* Good instructions of every op, by turns in each of its mods and over all registers. */
+static void medley(unsigned count)
+{
+    static const uint16_t mods[LAST_OP + 1] = {0,      0xEBE7, 0x0500, 0x1111, 0xFFFF, 0xFFFF, 0xFFFF, 0x0003, 0x0003,
+                                               0x0003, 0x0001, 0x0001, 0x5555, 0x0F0F, 0x0003, 0x0001, 0x02C4};
+    static const uint32_t imms[LAST_OP + 1] = {0, 1024, 65536, 1, 1, 65536, 4096, 1, 1, 1, 1, 1, 1, 1, 1, 1, 1024};
+    for (unsigned k = 0; k < count; k++) {
+        uint32_t *insn = list + 6 * k, op = k % LAST_OP + 1, mod = k / LAST_OP % 16;
+        while ((mods[op] >> mod & 1) == 0) mod = (mod + 1) % 16;
+        memset(insn, 0, 6 * sizeof *insn);
+        insn[REPLAY_INSN_OP] = op;
+        insn[REPLAY_INSN_IMM] = 2654435761u * (k + 1) % imms[op];
+        insn[REPLAY_INSN_MOD] = mod;
+        if (op == REPLAY_OP_LOAD || op == REPLAY_OP_STORE) insn[REPLAY_INSN_VB] = k / 3 % 4;
+        if ((op == REPLAY_OP_AND || op == REPLAY_OP_OR) && mod == 1) insn[REPLAY_INSN_VB] = k / 5 % 16;
+        if (op == REPLAY_OP_SWAP || (op >= REPLAY_OP_IADD && op <= REPLAY_OP_EXMAN)) insn[REPLAY_INSN_VC] = k / 7 % 16;
+        if (op != REPLAY_OP_NOP) insn[REPLAY_INSN_VD] = k / LAST_OP % 16;
+    }
+}
+
+/* The text reads to the settings and the list in hand, in room that is just enough, and is replayed; its report is put into `printed`. */
+static size_t reads_again(uint8_t *printed, const char *what)
+{
+    static uint32_t words[6 * FEW];
+    uint32_t others[8] = {0};
+    size_t length = 0;
+    memset(words, 0xA5, sizeof words);
+    expect(replay_read(text, size, words, 6 * FEW - 1, others, outcome) == REPLAY_TOO_LONG && is_painted(words, sizeof words), what, 11);
+    expect(replay_read(text, size, words, 6 * FEW, others, outcome) == REPLAY_DONE, what, outcome[REPLAY_OUTCOME_PLACE]);
+    expect(outcome[REPLAY_OUTCOME_LENGTH] == 6 * FEW && memcmp(words, list, sizeof words) == 0, what, outcome[REPLAY_OUTCOME_LENGTH]);
+    expect(memcmp(others, settings, sizeof settings) == 0, what, 0);
+    expect(replay_report(text, size, printed, REPLAY_REPORT, &length) == REPLAY_DONE, what, (unsigned)length);
+    return length;
+}
+
+/* An old listing, of every op, reads to the same settings and list as its rewritten form, which is written byte for byte again. */
+static void rewritten(void)
+{
+    static uint8_t form[REPLAY_TEXT], printed[2][REPLAY_REPORT];
+    const size_t first = strlen("format=2\n"), digits = 114 - strlen("01024\n");   /* where the old header begins, and where count's digits do */
+    start();
+    for (uint32_t i = REPLAY_SETTING_OFFSET; i < 8; i++) settings[i] = 1023 - i;
+    medley(FEW);
+    expect(replay_write(settings, list, 6 * FEW, form, sizeof form, outcome) == REPLAY_DONE, "written", 0);
+    const size_t form_size = outcome[REPLAY_OUTCOME_LENGTH];
+    expect(memcmp(form, "format=2\nedition=1\n", first + 10) == 0 && memcmp(form + digits - 6, "count=01024\nop=", 15) == 0, "as format 2", 0);
+
+    /* without the first line, and the first digit of count */
+    memcpy(text, form + first, digits - first);
+    memcpy(text + digits - first, form + digits + 1, form_size - digits - 1);
+    size = form_size - first - 1;
+    size_t length = reads_again(printed[0], "an old listing");
+    expect(replay_write(settings, list, 6 * FEW, text, sizeof text, outcome) == REPLAY_DONE, "and written", 0);
+    size = outcome[REPLAY_OUTCOME_LENGTH];
+    expect(size == form_size && memcmp(text, form, size) == 0, "as format 2, byte for byte", (unsigned)size);
+    expect(reads_again(printed[1], "its rewritten form") == length, "a report as long", (unsigned)length);
+    expect(memcmp(printed[0], printed[1], length) == 0, "and the same", (unsigned)length);
+}
+
+/* The report of the text is this. */
+static void reports(uint32_t answer, const char *wanted)
+{
+    size_t length = 99;
+    memset(room, 0xA5, sizeof room);
+    expect(replay_report(text, size, room, REPLAY_REPORT, &length) == answer, wanted, answer);
+    expect(length == strlen(wanted) && memcmp(room, wanted, length) == 0, wanted, (unsigned)length);
+    expect(is_painted(room + length, sizeof room - length), "the bytes past it stay", answer);
+}
+
+/* The program holds 1,024 instructions and 65,536 bytes of either format: 11 is the first refusal for a text, and the last for a list. */
+static void held(void)
+{
+    static const char two[] = "format=2\n", refused_11[] = "answer=11\nsteps=00000\nplace=00000\ncursor=0000\n";
+    compose(two, "count=01024\n", FEW);
+    reports(REPLAY_DONE, "answer=0\nsteps=01024\nplace=00000\ncursor=0005\n");
+    memset(text + size, '\n', sizeof text - size);
+    size = FEW_BYTES;
+    reports(REPLAY_BAD_TEXT, "answer=10\nsteps=00000\nplace=01035\ncursor=0000\n");
+    size = FEW_BYTES + 1;
+    reports(REPLAY_TOO_LONG, refused_11);
+    compose("", "count=1024\n", FEW);
+    reports(REPLAY_DONE, "answer=0\nsteps=01024\nplace=00000\ncursor=0005\n");
+    memset(text + size, '\n', sizeof text - size);
+    size = FEW_BYTES;
+    reports(REPLAY_BAD_TEXT, "answer=10\nsteps=00000\nplace=01034\ncursor=0000\n");
+    size = FEW_BYTES + 1;
+    reports(REPLAY_TOO_LONG, refused_11);
+
+    compose("", "count=1025\n", FEW + 1);
+    reports(REPLAY_TOO_MANY, "answer=5\nsteps=00000\nplace=00000\ncursor=0005\n");
+    compose(two, "count=01025\n", FEW + 1);
+    reports(REPLAY_TOO_LONG, refused_11);
+    compose(two, "count=01025\n", FEW);
+    add("op=NOP imm=00000 vb=00 vc=00 vd=00 mod=01\n");
+    reports(REPLAY_BAD_FIELD, "answer=8\nsteps=00000\nplace=01024\ncursor=0005\n");
+    compose(two, "count=01025\n", FEW + 2);
+    reports(REPLAY_BAD_TEXT, "answer=10\nsteps=00000\nplace=01036\ncursor=0000\n");
+    compose(two, "count=16385\n", 0);
+    reports(REPLAY_TOO_MANY, "answer=5\nsteps=00000\nplace=00000\ncursor=0005\n");
+    compose(two, "count=16384\n", LONGEST);
+    reports(REPLAY_TOO_LONG, refused_11);
 }
 
 static void refused_run(const uint32_t *words, size_t dst_len, uint32_t answer)
@@ -280,7 +576,8 @@ static void set_out(const uint32_t *words, size_t len)
     settings[REPLAY_SETTING_STRIDE2] = 1020;
     settings[REPLAY_SETTING_STRIDE3] = 1;
     keep(&origin);
-    memset(entries, 0xA5, sizeof entries);
+    lent = REPLAY_ENTRY * (len / 6) + (len < REPLAY_LIST);
+    memset(entries, 0xA5, lent * sizeof *entries);
     poison();
     expect(replay_begin(settings, image, REPLAY_IMAGE, dst, REPLAY_DST, words, len, outcome, walk) == REPLAY_DONE, "begun", 0);
 }
@@ -361,7 +658,7 @@ static void walks(void)
         expect(same_dst(&before) == (tour[6 * k] != REPLAY_OP_STORE), "Dst by each STORE and nothing else", k);
         stands(tour, k + 1);
     }
-    expect(forward(tour, TOUR, sizeof entries / sizeof *entries) == REPLAY_NO_STEP, "forward from the end", 0);
+    expect(forward(tour, TOUR, REPLAY_ENTRY * count + 1) == REPLAY_NO_STEP, "forward from the end", 0);
     stands(tour, count);
     for (unsigned k = count; k-- > 0; ) {
         expect(back(tour, TOUR, REPLAY_ENTRY * count) == REPLAY_DONE, "back", k);
@@ -441,12 +738,12 @@ static void refused_step(step *one, const uint32_t *words, size_t image_len, siz
     static uint32_t stored[sizeof entries / sizeof *entries];
     uint32_t stood[2];
     keep(&before);
-    memcpy(stored, entries, sizeof entries);
+    memcpy(stored, entries, lent * sizeof *entries);
     memcpy(stood, walk, sizeof walk);
     expect(one(settings, image, image_len, dst, dst_len, words, list_len, entries, size, walk) == answer, "refused", answer);
     expect(same_image(&before), "the image is as it was", answer);
     expect(same_dst(&before), "Dst is as it was", answer);
-    expect(memcmp(entries, stored, sizeof entries) == 0, "the store is as it was", answer);
+    expect(memcmp(entries, stored, lent * sizeof *entries) == 0, "the store is as it was", answer);
     expect(memcmp(walk, stood, sizeof walk) == 0, "the walk is as it was", answer);
 }
 
@@ -499,11 +796,31 @@ static void refused_steps(void)
     stands(tour, 0);
 }
 
-/* The longest list, there and back, in the store that the header calls enough; in one that is a word shorter, all but the last step. */
+/* A sum of image and Dst, to know them again by. */
+static uint64_t sum_of(void)
+{
+    static struct machine now;
+    uint64_t sum = 0, part;
+    memcpy(now.image, image, sizeof image);
+    memcpy(now.dst, dst, sizeof dst);
+    for (size_t i = 0; i < sizeof now; i += sizeof part) {
+        memcpy(&part, (const uint8_t *)&now + i, sizeof part);
+        sum = (sum ^ part) * 0x9E3779B97F4A7C15u;
+        sum ^= sum >> 29;
+    }
+    return sum;
+}
+
+/* The longest list, there and back, in the store that the header calls enough; in one that is a word shorter, all but the last step. Here and
+ * there it stands where a run of so many instructions ends; at each step forward where a run of the one leads, and at each step back where it
+ * was before. */
 static void whole(void)
 {
     static const uint32_t mods[4] = {2, 6, 7, 9};
+    static uint64_t sums[LONGEST + 1];
+    static struct machine run;
     const size_t all = sizeof entries / sizeof *entries;
+    uint32_t given[8];
     for (uint32_t k = 0; k < LONGEST; k++) {
         uint32_t *insn = list + 6 * k;
         memset(insn, 0, 6 * sizeof *insn);
@@ -514,19 +831,26 @@ static void whole(void)
         insn[REPLAY_INSN_MOD] = k % 2 == 0 ? 8 + k / 2 % 2 * 2 : mods[k / 2 % 4];
     }
     set_out(list, REPLAY_LIST);
-    expect(all == 821248, "the longest store", (unsigned)all);
-    for (unsigned k = 0; k < LONGEST - 1; k++) {
-        expect(forward(list, REPLAY_LIST, all - 1) == REPLAY_DONE, "forward", k);
-        stands(list, k + 1);
+    expect(all == 13139968 && lent == all, "the longest store", (unsigned)all);
+    run = origin;
+    memcpy(given, settings, sizeof given);
+    sums[0] = sum_of();
+    for (unsigned k = 0; k < LONGEST; k++) {
+        if (k == LONGEST - 1) refused_step(replay_forward, list, REPLAY_IMAGE, REPLAY_DST, REPLAY_LIST, all - 1, REPLAY_NO_STEP);
+        expect(forward(list, REPLAY_LIST, k == LONGEST - 1 ? all : all - 1) == REPLAY_DONE, "forward", k);
+        replay_run(given, run.image, REPLAY_IMAGE, run.dst, REPLAY_DST, list + 6 * k, 6, outcome);
+        given[REPLAY_SETTING_CURSOR] = outcome[REPLAY_OUTCOME_CURSOR];
+        expect(same_image(&run) && same_dst(&run) && walk[REPLAY_WALK_CURSOR] == outcome[REPLAY_OUTCOME_CURSOR], "is a run of the one", k);
+        sums[k + 1] = sum_of();
+        expect(sums[k + 1] != sums[k], "something changes", k);
+        if ((k + 1) % FEW == 0) stands(list, k + 1);
     }
-    refused_step(replay_forward, list, REPLAY_IMAGE, REPLAY_DST, REPLAY_LIST, all - 1, REPLAY_NO_STEP);
-    expect(forward(list, REPLAY_LIST, all) == REPLAY_DONE, "the last step forward", LONGEST);
-    stands(list, LONGEST);
     refused_step(replay_forward, list, REPLAY_IMAGE, REPLAY_DST, REPLAY_LIST, all, REPLAY_NO_STEP);
     refused_step(replay_back, list, REPLAY_IMAGE, REPLAY_DST, REPLAY_LIST, all - 1, REPLAY_NO_STEP);
     for (unsigned k = LONGEST; k-- > 0; ) {
         expect(back(list, REPLAY_LIST, all) == REPLAY_DONE, "back", k);
-        stands(list, k);
+        expect(sum_of() == sums[k] && walk[REPLAY_WALK_AT] == k, "as it was before", k);
+        if (k % FEW == 0) stands(list, k);
     }
     refused_step(replay_back, list, REPLAY_IMAGE, REPLAY_DST, REPLAY_LIST, all, REPLAY_NO_STEP);
     expect(same_image(&origin) && same_dst(&origin), "as it set out", 0);
@@ -620,7 +944,7 @@ static void nulls(void)
     replay_write(settings, nop, 6, text, REPLAY_TEXT, outcome);
     expect(replay_read(text, outcome[REPLAY_OUTCOME_LENGTH], NULL, 0, settings, outcome) == REPLAY_TOO_LONG, "no room for a list", 0);
     expect(replay_read(NULL, 0, NULL, 0, settings, outcome) == REPLAY_BAD_TEXT, "no text to read", 0);
-    expect(replay_report(NULL, 0, room, REPLAY_REPORT, &length) == REPLAY_BAD_TEXT && length == 44, "no text to report", (unsigned)length);
+    expect(replay_report(NULL, 0, room, REPLAY_REPORT, &length) == REPLAY_BAD_TEXT && length == 46, "no text to report", (unsigned)length);
     expect(replay_report(NULL, 0, NULL, 0, &length) == REPLAY_TOO_LONG && length == 0, "nothing to report", 0);
 }
 
@@ -671,6 +995,142 @@ static void report(const char *listing, const char *stored)
     expect(replay_report(text, size, room, sizeof room, &length) == answer && length == needed && room[needed] == 0xA5, "room to spare", (unsigned)length);
 }
 
+/* ---- in threads, which have little stack */
+
+/* Runs in a thread with a stack of so many bytes, lent, or its own where that is NULL. */
+static void in_thread(void *(*body)(void *), void *argument, uint8_t *stack, size_t bytes)
+{
+    pthread_attr_t with;
+    pthread_t thread;
+    int error = pthread_attr_init(&with);
+    if (error == 0) error = stack == NULL ? pthread_attr_setstacksize(&with, bytes) : pthread_attr_setstack(&with, stack, bytes);
+    if (error == 0) error = pthread_create(&thread, &with, body, argument);
+    if (error == 0) error = pthread_join(thread, NULL);
+    if (error != 0) {
+        fprintf(stderr, "no thread: %s\n", strerror(error));
+        exit(2);
+    }
+    pthread_attr_destroy(&with);
+}
+
+static uint32_t there[REPLAY_LIST];
+
+static void *write_there(void *answer)
+{
+    *(uint32_t *)answer = replay_write(settings, list, REPLAY_LIST, text, sizeof text, outcome);
+    size = outcome[REPLAY_OUTCOME_LENGTH];
+    return NULL;
+}
+
+static void *read_there(void *answer)
+{
+    *(uint32_t *)answer = replay_read(text, size, there, REPLAY_LIST, settings, outcome);
+    return NULL;
+}
+
+/* The longest listings are written and read in threads of 128 KB. */
+static void threads(void)
+{
+    static uint8_t written[REPLAY_TEXT];
+    uint32_t given[8], answer = 99;
+    start();
+    medley(LONGEST);
+    memcpy(given, settings, sizeof given);
+    in_thread(write_there, &answer, NULL, 128 * 1024);
+    expect(answer == REPLAY_DONE, "written", answer);
+    expect(replay_write(settings, list, REPLAY_LIST, written, sizeof written, outcome) == REPLAY_DONE, "written here", 0);
+    expect(outcome[REPLAY_OUTCOME_LENGTH] == size && memcmp(written, text, size) == 0, "byte for byte", (unsigned)size);
+    answer = 99;
+    in_thread(read_there, &answer, NULL, 128 * 1024);
+    expect(answer == REPLAY_DONE && outcome[REPLAY_OUTCOME_LENGTH] == REPLAY_LIST, "read", answer);
+    expect(memcmp(there, list, sizeof list) == 0 && memcmp(settings, given, sizeof given) == 0, "the same list and settings", 0);
+    compose("", "count=1024\n", FEW);
+    answer = 99;
+    in_thread(read_there, &answer, NULL, 128 * 1024);
+    expect(answer == REPLAY_DONE && outcome[REPLAY_OUTCOME_LENGTH] == 6 * FEW, "an old listing", answer);
+}
+
+/* Each call, as long as it can be. */
+static void call_run(void) { replay_run(settings, image, REPLAY_IMAGE, dst, REPLAY_DST, list, REPLAY_LIST, outcome); }
+static void call_begin(void) { replay_begin(settings, image, REPLAY_IMAGE, dst, REPLAY_DST, list, REPLAY_LIST, outcome, walk); }
+static void call_read(void) { replay_read(text, size, list, REPLAY_LIST, settings, outcome); }
+static void call_write(void) { replay_write(settings, list, REPLAY_LIST, text, sizeof text, outcome); }
+
+static void call_walk(void)
+{
+    while (forward(list, REPLAY_LIST, REPLAY_ENTRY * FEW) == REPLAY_DONE) continue;
+    while (back(list, REPLAY_LIST, REPLAY_ENTRY * FEW) == REPLAY_DONE) continue;
+}
+
+static void call_lane(void)
+{
+    static uint32_t own[24], head[24];
+    static uint16_t cells[2];
+    for (uint32_t k = 0; k < FEW; k++) replay_lane(settings, k % REPLAY_LANES, list + 6 * k, own, head, cells);
+}
+
+static void call_report(void)
+{
+    static size_t length;
+    replay_report(text, size, room, REPLAY_REPORT, &length);
+}
+
+static struct {
+    void (*call)(void);
+    uint8_t *end;
+    size_t depth;
+} painted;
+
+/* Paints the stack from where a call's would begin to its end. */
+__attribute__((noinline)) static uint8_t *paint(void)
+{
+    uint8_t *from = (uint8_t *)__builtin_frame_address(0);
+    for (volatile uint8_t *at = from - 512; at > painted.end; ) *--at = 0xA5;
+    return from;
+}
+
+/* How deep a call writes. Once before that, since what is linked at run time is looked for at the first call. */
+static void *measure(void *nothing)
+{
+    painted.call();
+    uint8_t *from = paint(), *at = painted.end;
+    painted.call();
+    while (at < from && *at == 0xA5) at++;
+    painted.depth = (size_t)(from - at);
+    return nothing;
+}
+
+static void takes(void (*call)(void), size_t most, const char *what)
+{
+    static uint8_t stack[1 << 20];
+    uint8_t *end = stack + (4096 - (uintptr_t)stack % 4096) % 4096;
+    painted.call = call;
+    painted.end = end + 4096;
+    in_thread(measure, NULL, end, sizeof stack - 4096);
+    printf("%s: %u bytes of stack\n", what, (unsigned)painted.depth);
+    expect(painted.depth < most, what, (unsigned)painted.depth);
+}
+
+/* No call takes more of the stack than the header says. */
+static void stacks(void)
+{
+    medley(LONGEST);
+    set_out(list, REPLAY_LIST);
+    takes(call_begin, STACK, "the start of a walk");
+    takes(call_walk, STACK, "a step");
+    takes(call_run, STACK, "a run");
+    takes(call_lane, STACK, "a lane");
+    takes(call_write, STACK, "writing");
+    size = outcome[REPLAY_OUTCOME_LENGTH];
+    takes(call_read, STACK, "reading");
+    expect(outcome[REPLAY_OUTCOME_LENGTH] == REPLAY_LIST, "all of it", outcome[REPLAY_OUTCOME_LENGTH]);
+    replay_write(settings, list, 6 * FEW, text, sizeof text, outcome);
+    size = outcome[REPLAY_OUTCOME_LENGTH];
+    takes(call_report, REPORT_STACK, "a report");
+    compose("", "count=1024\n", FEW);
+    takes(call_read, STACK, "reading an old listing");
+}
+
 static void names(void)
 {
     for (uint32_t op = 1; op <= LAST_OP; op++) printf("op %u %s\n", (unsigned)op, replay_op_name(op));
@@ -681,7 +1141,9 @@ static void names(void)
 int main(int argc, char **argv)
 {
     static const struct { const char *name; void (*topic)(void); } topics[] = {
-        {"version", version}, {"ops", ops}, {"answers", answers}, {"words", words}, {"sizes", sizes},
+        {"version", version}, {"ops", ops}, {"answers", answers}, {"words", words}, {"sizes", sizes}, {"limits", limits},
+        {"formats", formats}, {"first-lines", first_lines}, {"lengths", lengths}, {"rewritten", rewritten}, {"held", held},
+        {"threads", threads}, {"stacks", stacks},
         {"stores", stores}, {"ties", ties}, {"begins", begins}, {"walks", walks}, {"kept", kept}, {"refused-steps", refused_steps},
         {"whole", whole}, {"lane", lane}, {"parts", parts}, {"nulls", nulls}, {"null-walks", null_walks}, {"names", names},
     };

@@ -32,16 +32,19 @@ names = [f"op {n} {name}" for n, name in enumerate(replay.OPS) if n] + [f"answer
 assert content(sys.argv[1]).decode().splitlines() == names, "names"
 assert replay.version() == replay.VERSION
 
-# Each example reads, is written again, runs, and is reported as stored.
+# Each example reads, is written again, the old listing as the same of format 2, runs, and is reported as stored.
 for listing in glob.glob(os.path.join(root, "examples/*.lst")):
     text = content(listing)
+    form = text if text.startswith(b"format=2\n") else content(os.path.join(root, "examples/sort-step.lst"))
+    assert (form == text) == (not listing.endswith("old-listing.lst")), listing
     stored = content(listing[:-4] + ".report")
     report, answer = replay.report(text)
     assert report == stored and f"answer={answer}\n".encode() == stored[: stored.index(b"\n") + 1], listing
     settings, words, outcome = replay.read(text)
     assert outcome.answer == answer and outcome.text == replay.ANSWERS[answer], listing
     if outcome.done:
-        assert replay.write(settings, words) == (text, replay.Outcome(0, 0, 0, settings.cursor, len(text))), listing
+        assert replay.write(settings, words) == (form, replay.Outcome(0, 0, 0, settings.cursor, len(form))), listing
+        assert replay.read(form)[:2] == (settings, words), listing
         image = replay.image()
         outcome = replay.run(settings, image, replay.dst(), words)
         assert outcome.done and outcome.steps * 6 == len(words), listing
@@ -97,6 +100,29 @@ assert replay.begin(settings, array("I"), array("H"), []) == (None, replay.Outco
 assert refuses(TypeError, replay.begin(settings, image, cells, words, [0] * replay.ENTRY)[0].forward)
 assert refuses(TypeError, replay.begin, settings, [0] * replay.IMAGE, cells, words)
 
+# The longest list, of the longest lines, is written, read and run, in room made by need; one instruction more is 5, in an old listing above 1,024.
+longest = [replay.OPS.index("CONFIG"), 1, 0, 0, 12, 9] * (replay.LIST // 6)
+text, outcome = replay.write(replay.Settings(cursor=5), longest)
+assert outcome == replay.Outcome(0, 0, 0, 5, replay.TEXT) and len(text) == replay.TEXT
+assert replay.read(text) == (replay.Settings(cursor=5), array("I", longest), replay.Outcome(0, 0, 0, 5, replay.LIST))
+outcome = replay.run(replay.Settings(), replay.image(), replay.dst(), longest)
+assert outcome == replay.Outcome(0, replay.LIST // 6, 0, 0, ties=(0,) * 8)
+longest += longest[:6]
+assert replay.write(replay.Settings(cursor=5), longest) == (b"", replay.Outcome(5, 0, 0, 5))
+assert replay.run(replay.Settings(), replay.image(), replay.dst(), longest).answer == 5
+assert replay.begin(replay.Settings(), replay.image(), replay.dst(), longest) == (None, replay.Outcome(5, 0, 0, 0))
+more = text.replace(b"count=16384\n", b"count=16385\n") + text[-45:]
+assert replay.read(more)[2] == replay.Outcome(5, 0, 0, 5) and replay.read(text + text[-45:])[2] == replay.Outcome(10, 0, 16395, 0)
+old = text[len("format=2\n") :].replace(b"count=16384\n", b"count=1024\n")[: 104 + 45 * 1024]
+assert replay.read(old)[1] == array("I", longest[: 6 * 1024])
+assert replay.read(old.replace(b"count=1024\n", b"count=1025\n") + old[-45:])[2] == replay.Outcome(5, 0, 0, 5)
+assert replay.read(b"\n" * 1048576)[2] == replay.Outcome(10, 0, 1, 0) and replay.read(b"\n" * 1048577)[2] == replay.Outcome(11, 0, 0, 0)
+
+# The program holds 1,024 instructions and 65,536 bytes.
+assert replay.report(old)[0].startswith(b"answer=0\nsteps=01024\nplace=00000\n")
+assert replay.report(replay.write(replay.Settings(), longest[: 6 * 1025])[0]) == (b"answer=11\nsteps=00000\nplace=00000\ncursor=0000\n", 11)
+assert replay.report(text)[1] == 11 and replay.report(b"\n" * 65536)[1] == 10 and replay.report(b"\n" * 65537)[1] == 11
+
 # A lane and its cells, nothing lent, and what would not fit.
 own, cells = array("I", [0]) * 24, array("H", [0x1111, 0x2222])
 assert replay.lane(replay.Settings(), 9, [2, 40, 0, 0, 1, 10], own, own, cells) == 0 and own[1] == 40
@@ -105,7 +131,7 @@ assert replay.lane(replay.Settings(), 9, store[:1] + [0, 0, 0, 1, 9], own, own, 
 assert replay.lane(replay.Settings(), 9, store[:1] + [0, 0, 0, 2, 8], own, own, cells) == 8 and list(cells) == [40, 0x2222]
 assert replay.run(replay.Settings(), array("I"), array("H"), []).answer == 1
 assert replay.run(replay.Settings(), replay.image(), replay.dst(), []).done
-assert replay.read(b"")[2] == replay.Outcome(10, 0, 1, 0) and replay.write(replay.Settings(), [])[1].length == 104
+assert replay.read(b"")[2] == replay.Outcome(10, 0, 1, 0) and replay.write(replay.Settings(), [])[1].length == 114
 assert not replay.register(replay.image(), 9) and not replay.register(array("I"), 0)
 assert refuses(OverflowError, replay.run, replay.Settings(), replay.image(), replay.dst(), [1 << 32] * 6)
 assert refuses(OverflowError, replay.register, replay.image(), 1 << 32)

@@ -7,6 +7,8 @@ pub mod Trips
 pub mod Rooms
 pub mod Joins
 pub mod Walks
+pub mod LineRows
+pub mod LineWrites
 pub mod FormatTable
 pub mod Readers
 pub mod Writers

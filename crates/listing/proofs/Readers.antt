@@ -21,7 +21,8 @@ use Rattle.listing.specs.declared.Reading.{Reading}
 use Rattle.listing.specs.declared.Scanned.{Scanned}
 use Rattle.listing.specs.Forms.{Form, Scan, taken, faulty, joined, scan}
 use Rattle.listing.specs.PrivatePlaces.{numbers, Grown, Finds, Checked, numbersOf, Whole}
-use Rattle.listing.specs.PrivateReader.{formatBy, FormatOf, FoundAt, firstRefused, Reads}
+use Rattle.listing.specs.PrivateReader.{formatBy, FormatOf, FoundAt, firstRefused, Checking, Filling, Reads}
+use Rattle.listing.specs.PrivateLines.{wordsOf, PlainAt}
 use Rattle.listing.specs.Listing.{Format, formatOf, head, firstLine, line, lines, settingsOf, countIn, inFront, Read, refusedReading, refuseRead, acceptedReading, readList, readRest, readHeader, readAs, textLimit, readText}
 use Rattle.listing.proofs.FormatTable.{line-numbers, line-lines, lines-numbers, by-line, by-head, by-sound, form-no-text}
 use Rattle.listing.proofs.Joins.{joined-none, joined-joined, joined-end, joined-taken, scan-then, scan-not}
@@ -57,6 +58,12 @@ lines-more count i h =
     let e : count - i ≡ suc (count - (i + 1)) = omega arith in
     rw e
 
+-- a line, and then the rest
+lines-then : (t ns : List ℕ) (at end count i : ℕ) → scan line (drop at t) ≡ taken ns (drop end t) → i < count
+    → scan (lines (count - i)) (drop at t) ≡ joined ns 1 (scan (lines (count - (i + 1))) (drop end t))
+lines-then t ns at end count i e l =
+    rw (lines-more count i l, scan-then line (lines (count - (i + 1))) (drop at t) ns (drop end t) e, line-lines) refl
+
 -- one line found at a position
 module _ (t : List ℕ) (at first : ℕ) (c : Scanned) (there : FoundAt t at first 0 c) where
   line-found : Finds (scan line (drop at t)) t first c
@@ -72,12 +79,6 @@ module _ (t : List ℕ) (at first : ℕ) (c : Scanned) (there : FoundAt t at fir
 
     six-long : length (take 6 (c .numbers)) ≡ 6
     six-long = length-take-le 6 (c .numbers) (omega (arith, line-found .held, six-numbers))
-
-    -- and then the rest of the lines
-    then-lines : (count i : ℕ) → i < count
-        → scan (lines (count - i)) (drop at t) ≡ joined (take 6 (c .numbers)) 1 (scan (lines (count - (i + 1))) (drop (c .at) t))
-    then-lines count i l =
-        rw (lines-more count i l, scan-then line (lines (count - (i + 1))) (drop at t) (take 6 (c .numbers)) (drop (c .at) t) line-taken, line-lines) refl
 
   no-line : c .good ≡ false → (count i : ℕ) → i < count → scan (lines (count - i)) (drop at t) ≡ faulty (c .line - first)
   no-line b count i l =
@@ -113,16 +114,8 @@ first-held answer place k a n = sym (pick-false _ _ _ (ne-eqb answer 0 n))
 
 -- ---- the first time over them
 
-module _ (t : List ℕ) (from first count : ℕ) where
-  pub record Checking (at answer place i : ℕ) : Type 0 where
-    pub ns : List ℕ
-    pub goes : scan (lines count) (drop from t) ≡ joined ns i (scan (lines (count - i)) (drop at t))
-    pub refused : found answer place ≡ scanList ns 0 i
-    pub six : length ns ≡ 6 * i
-    pub within : at ≤ length t
-    pub upTo : i ≤ count
-
-  pub checking-start : from ≤ length t → Checking from 0 0 0
+module _ (t : List ℕ) (from count : ℕ) where
+  pub checking-start : from ≤ length t → Checking t from count from 0 0 0
   unfolding scanList
   checking-start h =
       record {
@@ -134,21 +127,31 @@ module _ (t : List ℕ) (from first count : ℕ) where
         upTo = omega arith;
       }
 
-  module _ (at answer place i : ℕ) (s : Checking at answer place i) where
-    module _ (c : Scanned) (l : i < count) (there : FoundAt t at (first + i) 0 c) where
+  module _ (at answer place i : ℕ) (s : Checking t from count at answer place i) where
+    -- one line more
+    checking-line : (ns : List ℕ) (end : ℕ) → scan line (drop at t) ≡ taken ns (drop end t) → length ns ≡ 6 → end ≤ length t → i < count
+        → (f : Found) → f ≡ firstRefused (found answer place) i (instructionAnswer true (insnAt ns 0))
+        → Checking t from count end (f .answer) (f .place) (i + 1)
+    unfolding firstRefused
+    checking-line ns end there long within l f e =
+        record {
+          ns = s .ns ++ ns;
+          goes = s .goes ∙ rw (lines-then t ns at end count i there l) (joined-joined (s .ns) ns i 1 _);
+          refused = e ∙ sym (scan-grows (s .ns) ns i (found answer place) (s .six) (s .refused));
+          six = omega (arith, s .six, length-append (s .ns) ns, long);
+          within = within;
+          upTo = omega arith;
+        }
+
+    module _ (first : ℕ) (c : Scanned) (l : i < count) (there : FoundAt t at (first + i) 0 c) where
       pub checking-more : c .good ≡ true → (f : Found) → f ≡ firstRefused (found answer place) i (instructionAnswer true (insnAt (c .numbers) 0))
-          → Checking (c .at) (f .answer) (f .place) (i + 1)
-      unfolding firstRefused
+          → Checking t from count (c .at) (f .answer) (f .place) (i + 1)
       checking-more b f e =
-          let six-more = take 6 (c .numbers) in
-          record {
-            ns = s .ns ++ six-more;
-            goes = s .goes ∙ rw (then-lines t at (first + i) c there b count i l) (joined-joined (s .ns) six-more i 1 _);
-            refused = e ∙ rw (← (same-insn (c .numbers))) (sym (scan-grows (s .ns) six-more i (found answer place) (s .six) (s .refused)));
-            six = omega (arith, s .six, length-append (s .ns) six-more, six-long t at (first + i) c there b);
-            within = line-found t at (first + i) c there .within;
-            upTo = omega arith;
-          }
+          checking-line (take 6 (c .numbers)) (c .at) (line-taken t at (first + i) c there b) (six-long t at (first + i) c there b)
+          (line-found t at (first + i) c there .within)
+          l
+          f
+          (rw (same-insn (c .numbers)) e)
 
       pub checking-stop : c .good ≡ false
           → Checked (scan (lines count) (drop from t)) t first count (record { good = false; at = c .at; line = c .line; answer = answer; place = place })
@@ -169,10 +172,10 @@ module _ (t : List ℕ) (from first count : ℕ) where
           no : false ≡ true → ⊥
           no z = let o : _≡_ {A = ℕ} 0 1 = cc in omega arith
 
-    pub checking-end : count ≤ i
+    pub checking-end : (first : ℕ) → count ≤ i
         → Checked (scan (lines count) (drop from t)) t first count (record { good = true; at = at; line = first + i; answer = answer; place = place })
     unfolding pick lines scan
-    checking-end l =
+    checking-end first l =
         let z : count - i ≡ 0 = omega arith in
         let n : length (s .ns) / 6 ≡ i = omega (arith, s .six) in
         record {
@@ -184,6 +187,14 @@ module _ (t : List ℕ) (from first count : ℕ) where
           onward = omega arith;
         }
 
+-- a plain line refuses nothing
+pub checking-plain : (t : List ℕ) (from count at i end : ℕ) → Checking t from count at 0 0 i → i < count → PlainAt t at end
+    → Checking t from count end 0 0 (i + 1)
+unfolding insnAt
+checking-plain t from count at i end s l p =
+    checking-line t from count at 0 0 i s (wordsOf (p .insn)) end (p .stands .scanned) refl (p .stands .within) l (found 0 0)
+    (first-kept 0 0 i (instructionAnswer true (p .insn)) 0 refl (sym (p .accepted)) refl)
+
 -- ---- the second time
 
 -- what was taken is whole
@@ -192,19 +203,7 @@ unfolding numbersOf
 taken-whole s ns rest e = (record { rest = rest; whole = rw e refl }, rw e refl)
 
 module _ (t : List ℕ) (from count : ℕ) (before : List ℕ) where
-  pub record Filling (list : List ℕ) (at n i : ℕ) : Type 0 where
-    pub done : List ℕ
-    pub left : List ℕ
-    pub rest : List ℕ
-    pub goes : numbersOf (scan (lines count) (drop from t)) ≡ done ++ left
-    pub still : scan (lines (count - i)) (drop at t) ≡ taken left rest
-    pub grown : Grown 0 n before list done
-    pub same : length list ≡ length before
-    pub six : n ≡ 6 * i
-    pub within : at ≤ length t
-    pub upTo : i ≤ count
-
-  pub filling-start : from ≤ length t → Whole (scan (lines count) (drop from t)) → Filling before from 0 0
+  pub filling-start : from ≤ length t → Whole (scan (lines count) (drop from t)) → Filling t from count before before from 0 0
   filling-start h w =
       record {
         done = [];
@@ -219,9 +218,27 @@ module _ (t : List ℕ) (from count : ℕ) (before : List ℕ) where
         upTo = omega arith;
       }
 
-  module _ (list : List ℕ) (at n i : ℕ) (s : Filling list at n i) where
+  module _ (list : List ℕ) (at n i : ℕ) (s : Filling t from count before list at n i) where
     pub filling-room : i < count → 6 * count ≤ length before → n + 6 ≤ length list
     filling-room l h = omega (arith, s .six, s .same)
+
+    -- one line more
+    pub filling-line : (ns : List ℕ) (end : ℕ) → scan line (drop at t) ≡ taken ns (drop end t) → length ns ≡ 6 → end ≤ length t → i < count
+        → (m : ℕ) (after : List ℕ) → Grown n m list after ns → length after ≡ length list → Filling t from count before after end m (i + 1)
+    filling-line ns end there long within l m after g k =
+        let j = joined-taken ns 1 (scan (lines (count - (i + 1))) (drop end t)) (s .left) (s .rest) (sym (lines-then t ns at end count i there l) ∙ s .still) in
+        record {
+          done = s .done ++ ns;
+          left = j .0;
+          rest = s .rest;
+          goes = s .goes ∙ ap (λ (x : List ℕ). s .done ++ x) (j .1 .1) ∙ sym (append-assoc (s .done) ns (j .0));
+          still = j .1 .0;
+          grown = grown-more 0 n before list (s .done) (s .grown) m after ns g;
+          same = k ∙ s .same;
+          six = omega (arith, s .six, g .upTo, long);
+          within = within;
+          upTo = omega arith;
+        }
 
     module _ (c : Scanned) (l : i < count) (there : FoundAt t at 1 0 c) where
       -- a line that was in form still is
@@ -233,22 +250,18 @@ module _ (t : List ℕ) (from count : ℕ) (before : List ℕ) where
           go false e = absurd (apart (s .left) (s .rest) (c .line - 1) (sym (no-line t at 1 c there e count i l) ∙ s .still))
 
       pub filling-more : (m : ℕ) (after : List ℕ) → Grown n m list after (take 6 (c .numbers)) → length after ≡ length list
-          → Filling after (c .at) m (i + 1)
+          → Filling t from count before after (c .at) m (i + 1)
       filling-more m after g k =
-          let six-more = take 6 (c .numbers) in
-          let j = joined-taken six-more 1 (scan (lines (count - (i + 1))) (drop (c .at) t)) (s .left) (s .rest) (sym (then-lines t at 1 c there in-form count i l) ∙ s .still) in
-          record {
-            done = s .done ++ six-more;
-            left = j .0;
-            rest = s .rest;
-            goes = s .goes ∙ ap (λ (x : List ℕ). s .done ++ x) (j .1 .1) ∙ sym (append-assoc (s .done) six-more (j .0));
-            still = j .1 .0;
-            grown = grown-more 0 n before list (s .done) (s .grown) m after six-more g;
-            same = k ∙ s .same;
-            six = omega (arith, s .six, g .upTo, six-long t at 1 c there in-form);
-            within = line-found t at 1 c there .within;
-            upTo = omega arith;
-          }
+          filling-line (take 6 (c .numbers)) (c .at) (line-taken t at 1 c there in-form) (six-long t at 1 c there in-form)
+          (line-found t at 1 c there .within)
+          l
+          m
+          after
+          g
+          k
+
+    pub filling-count : Filling t from count before list at (6 * i) i
+    filling-count = rw (← (s .six)) s
 
     pub filling-end : count ≤ i → list ≡ inFront (numbersOf (scan (lines count) (drop from t))) before
     unfolding lines scan

@@ -10,13 +10,16 @@ use borrow.Author.Tests.{eq-eqb, ne-eqb, le-leb, lt-leb}
 use Rattle.lane.specs.declared.Settings.{Settings}
 use Rattle.lane.proofs.Cases.{pick-true, pick-false}
 use Rattle.runner.specs.declared.Found.{Found}
-use Rattle.runner.specs.Checks.{countOf, listLimit, listAnswer}
+use Rattle.lane.proofs.Accepted.{fields-fit}
+use Rattle.runner.specs.Checks.{insnAt, countOf, listLimit, listAnswer}
 use Rattle.runner.proofs.Accepted.{listed, given-short}
 use Rattle.listing.specs.Forms.{Form, lit, dec, hex, name, text, LF, digits, render, renderItem, takes, nameOf, spell, bytes, literal}
-use Rattle.listing.specs.PrivatePlaces.{formOf, numbers, widest, widestItem, Grown, Renders}
+use Rattle.listing.specs.PrivatePlaces.{numbers, widest, widestItem, Grown}
+use Rattle.listing.specs.PrivateLines.{lineLength, Named}
 use Rattle.listing.specs.Listing.{Format, written, headerWith, head, line, lines, listingIn, listing, headerOf, inFront, textLimit, refuseWrite, acceptedWriting, writeList}
 use Rattle.listing.proofs.Digits.{length-digits}
 use Rattle.listing.proofs.FormatTable.{Sound, line-numbers}
+use Rattle.listing.proofs.LineRows.{length-line}
 use Rattle.listing.proofs.Rooms.{grown-none, grown-more, grown-whole}
 use Rattle.listing.proofs.Trips.{render-append, widest-append}
 use Rattle.listing.proofs.Walks.{render-widest}
@@ -73,7 +76,7 @@ opening-numbers : numbers opening ≡ 0
 unfolding numbers takes bytes spell literal
 opening-numbers = refl
 
-pub line-length : (ns : List ℕ) → length (render line ns) ≡ 38 + length (nameOf (getD ns 0 0))
+pub line-length : (ns : List ℕ) → length (render line ns) ≡ lineLength (getD ns 0 0)
 unfolding render renderItem takes
 line-length ns =
     ap (λ (f : Form). length (render f ns)) line-parts
@@ -106,15 +109,15 @@ module _ (list : List ℕ) (count : ℕ) where
       record { goes = rw (sub-zero count) (sym (zero-add (length (render (lines count) list)))); few = omega arith; upTo = omega arith }
 
   module _ (n k : ℕ) (s : Counting n k) where
-    pub counting-more : k < count → (m : ℕ) → m ≡ length (nameOf (getD list (6 * k) 0)) → m ≤ 7 → Counting (n + (38 + m)) (k + 1)
-    counting-more l m e h =
+    pub counting-more : k < count → (m : ℕ) → m ≡ lineLength (getD list (6 * k) 0) → Counting (n + m) (k + 1)
+    counting-more l m e =
         let a = render line (drop (6 * k) list) in
         let b = render (lines (count - (k + 1))) (drop (6 * (k + 1)) list) in
         let z : getD (drop (6 * k) list) 0 0 ≡ getD list (6 * k) 0 = getD-drop (6 * k) list 0 0 ∙ ap (λ (j : ℕ). getD list j 0) (add-zero (6 * k)) in
-        let p : length a ≡ 38 + m = line-length (drop (6 * k) list) ∙ ap (λ (j : ℕ). 38 + length (nameOf j)) z ∙ ap (λ (j : ℕ). 38 + j) (sym e) in
+        let p : length a ≡ m = line-length (drop (6 * k) list) ∙ ap lineLength z ∙ sym e in
         record {
           goes = omega (arith, s .goes, ap length (lines-next list count k l) ∙ length-append a b, p);
-          few = omega (arith, s .few);
+          few = omega (arith, s .few, length-line (getD list (6 * k) 0));
           upTo = omega arith;
         }
 
@@ -127,52 +130,48 @@ module _ (list : List ℕ) (count : ℕ) where
 
 -- and their bytes
 module _ (list : List ℕ) (place count : ℕ) (before : List ℕ) where
-  pub record Putting (form text : List ℕ) (at k : ℕ) : Type 0 where
+  pub record Putting (text : List ℕ) (at k : ℕ) : Type 0 where
     pub bs : List ℕ
     pub goes : render (lines count) list ≡ bs ++ render (lines (count - k)) (drop (6 * k) list)
     pub grown : Grown place at before text bs
     pub same : length text ≡ length before
     pub upTo : k ≤ count
-    pub lined : formOf form ≡ line
 
-  pub putting-start : (form : List ℕ) → formOf form ≡ line → Putting form before place 0
-  putting-start form e =
+  pub putting-start : Putting before place 0
+  putting-start =
       record {
         bs = [];
         goes = rw (sub-zero count) refl;
         grown = grown-none place before;
         same = refl;
         upTo = omega arith;
-        lined = e;
       }
 
-  module _ (form text : List ℕ) (at k : ℕ) (s : Putting form text at k) where
-    pub putting-room : place + length (render (lines count) list) ≤ length before → k < count
-        → at + length (render (formOf form) (drop (6 * k) list)) ≤ length text
+  module _ (text : List ℕ) (at k : ℕ) (s : Putting text at k) where
+    pub putting-room : place + length (render (lines count) list) ≤ length before → k < count → at + lineLength (getD list (6 * k) 0) ≤ length text
     putting-room h l =
         let a = render line (drop (6 * k) list) in
         let b = render (lines (count - (k + 1))) (drop (6 * (k + 1)) list) in
-        rw (s .lined)
-        (omega (
+        let z : getD (drop (6 * k) list) 0 0 ≡ getD list (6 * k) 0 = getD-drop (6 * k) list 0 0 ∙ ap (λ (j : ℕ). getD list j 0) (add-zero (6 * k)) in
+        let p : length a ≡ lineLength (getD list (6 * k) 0) = line-length (drop (6 * k) list) ∙ ap lineLength z in
+        omega (
           arith,
           ap length (s .goes ∙ ap (λ (x : List ℕ). s .bs ++ x) (lines-next list count k l)) ∙ length-append (s .bs) (a ++ b),
           length-append a b,
+          p,
           s .grown .upTo,
           s .same,
-        ))
+        )
 
-    pub putting-more : (r : ℕ) (after : List ℕ) → k < count
-        → Renders (render (formOf form) (drop (6 * k) list)) at (widest (formOf form)) text after r → length after ≡ length text
-        → Putting form after r (k + 1)
-    putting-more r after l e q =
-        let g : Grown at r text after (render line (drop (6 * k) list)) = rw (s .lined) at (e .grown) in
+    pub putting-more : (r : ℕ) (after : List ℕ) → k < count → Grown at r text after (render line (drop (6 * k) list)) → length after ≡ length text
+        → Putting after r (k + 1)
+    putting-more r after l g q =
         record {
           bs = s .bs ++ render line (drop (6 * k) list);
           goes = s .goes ∙ rw (lines-next list count k l) (sym (append-assoc (s .bs) _ _));
           grown = grown-more place at before text (s .bs) (s .grown) r after _ g;
           same = q ∙ s .same;
           upTo = omega arith;
-          lined = s .lined;
         }
 
     pub putting-end : count ≤ k → Grown place at before text (render (lines count) list)
@@ -202,6 +201,11 @@ listing-put s list before text after at r g h = grown-whole r before after _ (gr
 
 pub few-words : (s : Settings) (list : List ℕ) → listAnswer s list .answer ≡ 0 → length list ≤ 6 * listLimit
 few-words s list e = given-short s list (listed s list e .checked)
+
+-- every op of a list that no check refuses has a name
+pub list-named : (s : Settings) (list : List ℕ) → listAnswer s list .answer ≡ 0 → Named list
+unfolding insnAt
+list-named s list e k l = let n = fields-fit (insnAt list k) (listed s list e .each k l) in (n .known, n .last)
 
 pub line-widest : widest line ≡ 45
 unfolding widest widestItem line bytes spell literal

@@ -6,3 +6,4 @@ pub mod Program
 -- The vocabulary of private functions, which no promise rests on: pass over it.
 pub mod PrivatePlaces
 pub mod PrivateReader
+pub mod PrivateLines

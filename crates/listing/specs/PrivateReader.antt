@@ -1,18 +1,18 @@
 -- Pass over this page with document 01 in the other hand: it is the vocabulary of private functions, and no promise rests on it. It has
 -- what the reader finds that keeps hold of the lent text and its line number.
-use Prim.Native.Nat.{ℕ, _<_}
+use Prim.Native.Nat.{ℕ, _-_, _*_, _<_, _≤_}
 use mathlib.Core.Path.{_≡_}
-use mathlib.Core.List.{List}
+use mathlib.Core.List.{List, _++_}
 use lib.ListN.{getD, length, drop}
 use lib.Dec.{eqb}
 use Rattle.lane.specs.Words.{pick}
 use Rattle.runner.specs.declared.Found.{Found}
-use Rattle.runner.specs.Checks.{found}
+use Rattle.runner.specs.Checks.{found, scan as scanList}
 use Rattle.listing.specs.declared.Reading.{Reading}
 use Rattle.listing.specs.declared.Scanned.{Scanned}
-use Rattle.listing.specs.Forms.{Form, scan}
-use Rattle.listing.specs.PrivatePlaces.{Finds}
-use Rattle.listing.specs.Listing.{Format, old, two, formatOf, head, line, inFront, Read}
+use Rattle.listing.specs.Forms.{Form, taken, joined, scan}
+use Rattle.listing.specs.PrivatePlaces.{Grown, Finds, numbersOf}
+use Rattle.listing.specs.Listing.{Format, old, two, formatOf, head, line, lines, inFront, Read}
 
 -- The formats by number, as their first lines have it; any number but 2 is the old one's.
 unfoldable pub formatBy : ℕ → Format
@@ -42,3 +42,25 @@ firstRefused f k a = pick (eqb (f .answer) 0) (pick (eqb a 0) f (found a k)) f
 pub record Reads (given : Read) (before after : List ℕ) (r : Reading) : Type 0 where
   pub told : r ≡ given .reading
   pub put : after ≡ inFront (given .list) before
+
+-- Of so many instruction lines from a position on, the first i are in form and end at another, and of their instructions the first refused was found.
+pub record Checking (t : List ℕ) (from count at answer place i : ℕ) : Type 0 where
+  pub ns : List ℕ
+  pub goes : scan (lines count) (drop from t) ≡ joined ns i (scan (lines (count - i)) (drop at t))
+  pub refused : found answer place ≡ scanList ns 0 i
+  pub six : length ns ≡ 6 * i
+  pub within : at ≤ length t
+  pub upTo : i ≤ count
+
+-- Of so many that are all in form, the first i end at another, and their n words are in front of lent room.
+pub record Filling (t : List ℕ) (from count : ℕ) (before list : List ℕ) (at n i : ℕ) : Type 0 where
+  pub done : List ℕ
+  pub left : List ℕ
+  pub rest : List ℕ
+  pub goes : numbersOf (scan (lines count) (drop from t)) ≡ done ++ left
+  pub still : scan (lines (count - i)) (drop at t) ≡ taken left rest
+  pub grown : Grown 0 n before list done
+  pub same : length list ≡ length before
+  pub six : n ≡ 6 * i
+  pub within : at ≤ length t
+  pub upTo : i ≤ count

@@ -252,16 +252,6 @@ pub(crate) fn put_number(out: &mut [u8], at: usize, base: u32, w: usize, n: u32)
     }
 }
 
-// How many bytes the name of any number takes, those past 16 having none.
-pub(crate) fn name_length(op: u32) -> usize
-    ensures { λ r. ⌜ (r ≡ length (Forms.nameOf op)) × (r ≤ 7) ⌝ }
-{
-    if op < 17 {
-        return NAME_LENGTHS[op as usize];
-    }
-    0
-}
-
 // The name of `op`.
 fn put_name(out: &mut [u8], at: usize, op: usize) -> usize
     requires { ⌜ (at + length (Forms.nameOf op) ≤ length (now out)) × (op < 17) ⌝ }

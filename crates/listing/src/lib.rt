@@ -8,6 +8,8 @@ mod forms;
 mod hold;
 // The table of formats.
 mod formats;
+// Instruction lines as a whole.
+mod lines;
 // Text to settings and list.
 pub mod reader;
 // Settings and list to text.
@@ -58,6 +60,19 @@ struct Scanned {
     line: usize,
     n: usize,
     numbers: [u32; 10],
+}
+
+// An instruction line as a whole: whether it is plainly in form, the position after it, and its instruction.
+struct Line {
+    good: bool,
+    at: usize,
+    insn: lane::Insn,
+}
+
+// Lines that are plainly in form, from a position on: how many, and the position after them.
+struct Plain {
+    lines: u32,
+    at: usize,
 }
 
 // The rest of a text, its instruction lines: whether all are there, the position and the line after them or else those of the fault, and

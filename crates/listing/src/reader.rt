@@ -1,4 +1,5 @@
 // Text to settings and list, line by line through the reader: once over the text for every check, and once more into the lent room.
+use crate::Plain;
 use crate::Reading;
 use crate::Rest;
 use crate::formats::first_line;
@@ -7,11 +8,15 @@ use crate::formats::limit_of;
 use crate::forms::word_at;
 use crate::hold::LINE_FORM;
 use crate::hold::read_form;
+use crate::lines::HIGHS;
+use crate::lines::LOWS;
+use crate::lines::plain_end;
+use crate::lines::plain_line;
 use lane::Insn;
 use lane::Settings;
+use lane::refuse::instruction_answer;
 use lane::refuse::settings_good;
 use runner::Found;
-use runner::checks::answer_of;
 ghost use mathlib.Core.Path.{_≡_};
 ghost use mathlib.Core.Bool.{true};
 ghost use Prim.Native.Nat.{_+_, _*_, _<_, _≤_};
@@ -20,6 +25,7 @@ ghost use Rattle.lane.specs.Refusals.{instructionAnswer};
 ghost use Rattle.runner.specs.Checks.{insnAt, found, scanned, listLimit};
 ghost use Rattle.listing.specs.Forms as Forms;
 ghost use Rattle.listing.specs.PrivatePlaces as Places;
+ghost use Rattle.listing.specs.PrivateLines as Lines;
 ghost use Rattle.listing.specs.PrivateReader as Held;
 ghost use Rattle.listing.specs.Listing as Listing;
 
@@ -80,14 +86,15 @@ fn first_refused(answer: u32, place: u32, k: u32, numbers: &[u32; 10]) -> Found
     ensures { λ r. ⌜ r ≡ Held.firstRefused (found answer place) k (instructionAnswer true (insnAt (now (numbers .entry)) 0)) ⌝ }
 {
     if answer == 0 {
-        let next = answer_of(Insn {
+        let insn = Insn {
             op: numbers[0],
             imm: numbers[1],
             vb: numbers[2],
             vc: numbers[3],
             vd: numbers[4],
             md: numbers[5],
-        });
+        };
+        let next = instruction_answer(true, insn);
         if next != 0 {
             return Found {
                 answer: next,
@@ -98,15 +105,34 @@ fn first_refused(answer: u32, place: u32, k: u32, numbers: &[u32; 10]) -> Found
     Found { answer, place }
 }
 
-// The instruction lines from line `first` on, their form and their fields.
+// The instruction lines that are plainly good, from a position on.
+fn plain_lines(lows: &[u8; 816], highs: &[u8; 816], text: &[u8], from: usize, count: u32) -> Plain
+    requires { ⌜ Lines.Rows (now lows) (now highs) × (from ≤ length (now text)) ⌝ }
+    ensures { λ r. ⌜ Held.Checking (now (text .entry)) from count (r .at) 0 0 (r .lines) ⌝ }
+{
+    let mut at = from;
+    let mut i: u32 = 0;
+    while i < count {
+        let end = plain_end(lows, highs, text, at);
+        if end == 0 {
+            return Plain { lines: i, at };
+        }
+        at = end;
+        i += 1;
+    }
+    Plain { lines: i, at }
+}
+
+// The instruction lines from line `first` on, their form and their fields: those that are plainly good, and then one by one.
 fn check_lines(text: &[u8], from: usize, first: u32, count: u32) -> Rest
     requires { ⌜ (from ≤ length (now text)) × (first ≤ 100) × (count ≤ listLimit) ⌝ }
     ensures { λ r. ⌜ Places.Checked (Forms.scan (Listing.lines count) (drop from (now (text .entry)))) (now (text .entry)) first count r ⌝ }
 {
-    let mut at = from;
+    let plain = plain_lines(&LOWS, &HIGHS, text, from, count);
+    let mut at = plain.at;
     let mut answer: u32 = 0;
     let mut place: u32 = 0;
-    let mut i: u32 = 0;
+    let mut i = plain.lines;
     while i < count {
         let c = read_form(text, at, first + i, LINE_FORM);
         if c.good {
@@ -134,14 +160,44 @@ fn check_lines(text: &[u8], from: usize, first: u32, count: u32) -> Rest
     }
 }
 
+// The instruction lines that are plainly in form, into the front of the lent room.
+fn fill_plain(
+    lows: &[u8; 816],
+    highs: &[u8; 816],
+    text: &[u8],
+    from: usize,
+    count: u32,
+    list: &mut [u32],
+) -> Plain
+    requires { ⌜ Lines.Rows (now lows) (now highs) × ((from ≤ length (now text)) × ((6 * count ≤ length (now list)) × Places.Whole (Forms.scan (Listing.lines count) (drop from (now text))))) ⌝ }
+    ensures { λ r. ⌜ Held.Filling (now (text .entry)) from count (now (list .entry)) (now (list .exit)) (r .at) (6 * r .lines) (r .lines) ⌝ }
+{
+    let mut at = from;
+    let mut n: usize = 0;
+    let mut i: u32 = 0;
+    while i < count {
+        let l = plain_line(lows, highs, text, at);
+        if l.good {
+            let w = l.insn;
+            n = put_words(list, n, 6, &[w.op, w.imm, w.vb, w.vc, w.vd, w.md]);
+            at = l.at;
+            i += 1;
+        } else {
+            return Plain { lines: i, at };
+        }
+    }
+    Plain { lines: i, at }
+}
+
 // The instruction lines once more, into the front of the lent room.
 fn fill_lines(text: &[u8], from: usize, count: u32, list: &mut [u32])
     requires { ⌜ (from ≤ length (now text)) × (count ≤ listLimit) × (6 * count ≤ length (now list)) × Places.Whole (Forms.scan (Listing.lines count) (drop from (now text))) ⌝ }
     ensures { λ _. ⌜ now (list .exit) ≡ Listing.inFront (Places.numbersOf (Forms.scan (Listing.lines count) (drop from (now (text .entry))))) (now (list .entry)) ⌝ }
 {
-    let mut at = from;
-    let mut n: usize = 0;
-    let mut i: u32 = 0;
+    let plain = fill_plain(&LOWS, &HIGHS, text, from, count, list);
+    let mut at = plain.at;
+    let mut i = plain.lines;
+    let mut n = 6 * i as usize;
     while i < count {
         let c = read_form(text, at, 1, LINE_FORM);
         n = put_words(list, n, 6, &c.numbers);

@@ -1,9 +1,10 @@
 // Settings and list to text: the checks, a count of the bytes, and the lent room only then.
 use crate::HEAD_2;
-use crate::LINE;
 use crate::Writing;
-use crate::forms::name_length;
 use crate::forms::render;
+use crate::lines::LOWS;
+use crate::lines::line_length;
+use crate::lines::put_line;
 use lane::Settings;
 use runner::checks::list_answer;
 ghost use mathlib.Core.Path.{_≡_};
@@ -12,6 +13,7 @@ ghost use lib.ListN.{length};
 ghost use Rattle.runner.specs.Checks.{countOf, listLimit};
 ghost use Rattle.listing.specs.Forms as Forms;
 ghost use Rattle.listing.specs.PrivatePlaces as Places;
+ghost use Rattle.listing.specs.PrivateLines as Lines;
 ghost use Rattle.listing.specs.Listing as Listing;
 
 // A refusal.
@@ -44,34 +46,31 @@ fn header_of(s: Settings, count: u32) -> [u32; 9]
     ]
 }
 
-// The bytes of an instruction line but for its name.
-const LINE_WIDTH: usize = 38;
-
 // How many bytes the instruction lines take.
 fn lines_length(list: &[u32]) -> usize
-    requires { ⌜ length (now list) ≤ 6 * listLimit ⌝ }
+    requires { ⌜ (length (now list) ≤ 6 * listLimit) × Lines.Named (now list) ⌝ }
     ensures { λ r. ⌜ r ≡ length (Forms.render (Listing.lines (countOf (now (list .entry)))) (now (list .entry))) ⌝ }
 {
     let count = list.len() / 6;
     let mut n: usize = 0;
     let mut k: usize = 0;
     while k < count {
-        n += LINE_WIDTH + name_length(list[6 * k]);
+        n += line_length(list[6 * k]);
         k += 1;
     }
     n
 }
 
 // The instruction lines.
-fn put_lines(list: &[u32], text: &mut [u8], place: usize) -> usize
-    requires { ⌜ (length (now list) ≤ 6 * listLimit) × (place + length (Forms.render (Listing.lines (countOf (now list))) (now list)) ≤ length (now text)) ⌝ }
+fn put_lines(lows: &[u8; 816], list: &[u32], text: &mut [u8], place: usize) -> usize
+    requires { ⌜ Lines.RowsOf 0 (now lows) × (length (now list) ≤ 6 * listLimit) × Lines.Named (now list) × (place + length (Forms.render (Listing.lines (countOf (now list))) (now list)) ≤ length (now text)) ⌝ }
     ensures { λ r. ⌜ Places.Grown place r (now (text .entry)) (now (text .exit)) (Forms.render (Listing.lines (countOf (now (list .entry)))) (now (list .entry))) ⌝ }
 {
     let count = list.len() / 6;
     let mut at = place;
     let mut k: usize = 0;
     while k < count {
-        at = render(&LINE, list, 6 * k, text, at);
+        at = put_line(lows, list, 6 * k, text, at);
         k += 1;
     }
     at
@@ -79,12 +78,12 @@ fn put_lines(list: &[u32], text: &mut [u8], place: usize) -> usize
 
 // A whole listing.
 fn put_listing(s: Settings, list: &[u32], text: &mut [u8])
-    requires { ⌜ (length (now list) ≤ 6 * listLimit) × (length (Listing.listing s (now list)) ≤ length (now text)) ⌝ }
+    requires { ⌜ (length (now list) ≤ 6 * listLimit) × Lines.Named (now list) × (length (Listing.listing s (now list)) ≤ length (now text)) ⌝ }
     ensures { λ _. ⌜ now (text .exit) ≡ Listing.inFront (Listing.listing s (now (list .entry))) (now (text .entry)) ⌝ }
 {
     let count = (list.len() / 6) as u32;
     let at = render(&HEAD_2, &header_of(s, count), 0, text, 0);
-    put_lines(list, text, at);
+    put_lines(&LOWS, list, text, at);
 }
 
 // The bytes of the head.

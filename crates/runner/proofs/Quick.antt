@@ -1,149 +1,74 @@
--- The quick test of an instruction says yes only to one that draws no refusal; the union of the lanes' words is well formed exactly if each is. Assumes nothing.
-use mathlib.Core.Path.{_≡_, refl, sym, ap, _∙_}
-use Prim.Native.Nat.{ℕ, zero, suc, _+_, _-_, _*_, _/_, _%_, _^_, _<_, _≤_}
-use native.Mathlib.Nat.{mod-eq-of-lt, div-lt-iff-lt-mul, suc-mul, one-mul}
-use lib.Pow.{suc-ones, shr-lt}
+-- The quick test of an instruction says yes to exactly those that draw no refusal; the union of the lanes' words is well formed exactly if each is. Assumes nothing.
+use mathlib.Core.Path.{_≡_, refl, sym, ap, ap₂, _∙_}
+use Prim.Native.Nat.{ℕ, zero, suc, _+_, _-_, _*_, _%_, _^_, _<_, _≤_}
+use native.Mathlib.Nat.{mod-eq-of-lt, mod-lt}
+use lib.Pow.{pow-pos, recompose}
 use native.Mathlib.Numerals.{add-one}
 use native.Mathlib.Omega.{arith}
-use mathlib.Core.Bool.{Bool, true, false, not, _&&_, _||_, false≢true}
-use mathlib.Core.List.{List, [], _∷_}
+use mathlib.Core.Bool.{Bool, true, false, not, _&&_, _||_, Bool·beq, and-true, and-false, or-true, and-assoc, and-comm}
+use mathlib.Core.List.{List}
 use lib.ListN.{getD}
 use lib.Bits.{bitAnd, bitOr, or-add-and, and-le-l, and-le-r, and-block, and-high, or-lt}
+use lib.Count.{leadingZeros}
 use lib.Dec.{eqb, ltb, leb}
-use borrow.Author.Tests.{eqb-true, lt-ltb, le-ltb, le-leb}
+use borrow.Author.Tests.{eqb-true, eqb-false, eq-eqb, ne-eqb, lt-ltb, le-ltb, le-leb, lt-leb}
 use Rattle.lane.specs.declared.Insn.{Insn}
 use Rattle.lane.specs.Words.{pick, bit}
-use Rattle.lane.specs.Refusals.{immLimits, vbLimits, vcLimits, vdLimits, modAllowed, vbTied, opKnown, wideLoad, pass, fieldsGood, instructionAnswer, wellFormed, wellFormedBy}
+use Rattle.lane.specs.Refusals.{immLimits, vbLimits, vcLimits, vdLimits, within, modAllowed, opKnown, wideLoad, pass, fieldsGood, instructionAnswer, wellFormed, wellFormedBy}
 use Rattle.lane.proofs.Tables.{and-left, and-right, allBelow, below-all}
-use Rattle.lane.proofs.Cases.{pick-true, pick-false}
 use Rattle.runner.specs.Image.{laneIn, lanesGood}
 use Rattle.runner.proofs.Lanes.{split}
-use Rattle.runner.specs.PrivateQuick.{past, over, plainMods, overOf, modPlace, noneOver, plain}
+use Rattle.runner.specs.PrivateQuick.{pair, past, over, plainMods, overOf, noneOver, plain}
 
 -- ---- bits past a limit
+
+both-zero : (n a b : ℕ) → (n ≡ 0 → (a ≡ 0) × (b ≡ 0)) → (a ≡ 0 → b ≡ 0 → n ≡ 0) → eqb n 0 ≡ (eqb a 0 && eqb b 0)
+both-zero n a b f g = by (eqb a 0) (eqb b 0) refl refl
+  where
+    by : (s t : Bool) → eqb a 0 ≡ s → eqb b 0 ≡ t → eqb n 0 ≡ (s && t)
+    by true true p q = eq-eqb n 0 (g (eqb-true a 0 p) (eqb-true b 0 q))
+    by true false p q = ne-eqb n 0 (λ e. eqb-false b 0 q (f e .1))
+    by false t p q = ne-eqb n 0 (λ e. eqb-false a 0 p (f e .0))
 
 pub no-or : (a b : ℕ) → bitOr a b ≡ 0 → (a ≡ 0) × (b ≡ 0)
 no-or a b e = (omega (arith, or-add-and a b, and-le-l a b, and-le-r a b), omega (arith, or-add-and a b, and-le-l a b, and-le-r a b))
 
-no-pair : (a b r s : ℕ) → r < 2 ^ 32 → s < 2 ^ 32 → bitAnd (r + a * 2 ^ 32) (s + b * 2 ^ 32) ≡ 0 → (bitAnd a b ≡ 0) × (bitAnd r s ≡ 0)
-no-pair a b r s hr hs e = (omega (arith, whole), omega (arith, whole))
+or-zero : (a b : ℕ) → eqb (bitOr a b) 0 ≡ (eqb a 0 && eqb b 0)
+or-zero a b = both-zero (bitOr a b) a b (no-or a b) (λ p q. omega (arith, or-add-and a b))
+
+-- a limit of w ones: what x has past it is none exactly where x is within it
+within-ones : (w limit x : ℕ) → w ≤ 32 → limit + 1 ≡ 2 ^ w → x < 2 ^ 32 → eqb (bitAnd x (past limit)) 0 ≡ leb x limit
+within-ones w limit x hw e h =
+    split x (2 ^ w) (λ p. ne-eqb (bitAnd x (past limit)) 0 (λ z. omega (arith, whole, mod-lt x (pow-pos w))) ∙ sym (lt-leb x limit (omega arith)))
+    (λ p. eq-eqb (bitAnd x (past limit)) 0 (omega (arith, whole, mod-eq-of-lt p)) ∙ sym (le-leb x limit (omega arith)))
   where
-    whole : bitAnd a b * 2 ^ 32 + bitAnd r s ≡ 0
+    all : 32 - w + w ≡ 32
+    all = omega arith
+
+    whole : bitAnd x (past limit) + x % 2 ^ w ≡ x
     whole =
-        sym (and-block 32 a b r s hr hs)
-        ∙ ap (λ (x : ℕ). bitAnd x (b * 2 ^ 32 + s)) (swap (a * 2 ^ 32) r) ∙ ap (λ (x : ℕ). bitAnd (r + a * 2 ^ 32) x) (swap (b * 2 ^ 32) s) ∙ e
-      where
-        swap : (x y : ℕ) → x + y ≡ y + x
-        swap x y = omega arith
+        ap (λ (m : ℕ). bitAnd x m + x % 2 ^ w) (omega arith) ∙ ap (λ (k : ℕ). bitAnd x (2 ^ k - 2 ^ w) + x % 2 ^ w) (sym all)
+        ∙ ap (λ (n : ℕ). n + x % 2 ^ w) (and-high x (32 - w) w) ∙ recompose (32 - w) w (rw all h)
 
--- a limit of w ones
-pow-pos : (w : ℕ) → 0 < 2 ^ w
-pow-pos w = omega (arith, suc-ones w)
+-- whether a limit is ones alone
+abbrev ones : ℕ → Bool
+ones limit = eqb (limit + 1) (2 ^ (32 - leadingZeros 32 limit))
 
-within-ones : (w v x : ℕ) → v + w ≡ 32 → x < 2 ^ 32 → bitAnd x (2 ^ 32 - 2 ^ w) ≡ 0 → x < 2 ^ w
-within-ones w v x hw hx e = rw one-mul at (div-lt-iff-lt-mul (pow-pos w) .0 (small (x / 2 ^ w) low))
+pair-within : (a b l m : ℕ) → a < 2 ^ 32 → b < 2 ^ 32 → ones l ≡ true → ones m ≡ true
+    → eqb (bitAnd (pair a b) (pair (past l) (past m))) 0 ≡ (leb a l && leb b m)
+pair-within a b l m ha hb hl hm =
+    both-zero (bitAnd (pair a b) (pair (past l) (past m))) (bitAnd a (past l)) (bitAnd b (past m)) (λ e. (omega (arith, whole), omega (arith, whole)))
+    (λ p q. omega (arith, whole))
+    ∙ ap₂ _&&_ (field a l hl ha) (field b m hm hb)
   where
-    small : (n : ℕ) → n ≡ 0 → n < 1
-    small n q = omega arith
+    field : (x limit : ℕ) → ones limit ≡ true → x < 2 ^ 32 → eqb (bitAnd x (past limit)) 0 ≡ leb x limit
+    field x limit o h = within-ones (32 - leadingZeros 32 limit) limit x (omega arith) (eqb-true _ _ o) h
 
-    high : (x / 2 ^ w % 2 ^ v) * 2 ^ w ≡ 0
-    high = sym (and-high x v w) ∙ ap (λ (k : ℕ). bitAnd x (2 ^ k - 2 ^ w)) hw ∙ e
+    swap : (x y : ℕ) → x + y ≡ y + x
+    swap x y = omega arith
 
-    low : x / 2 ^ w ≡ 0
-    low = sym (mod-eq-of-lt (shr-lt v w (rw hw hx))) ∙ zero-of (x / 2 ^ w % 2 ^ v) (2 ^ w) (pow-pos w) high
-      where
-        zero-of : (a b : ℕ) → 0 < b → a * b ≡ 0 → a ≡ 0
-        zero-of zero b h q = refl
-        zero-of (suc a) b h q = absurd (none a b h (sym (suc-mul a b) ∙ q))
-          where
-            none : (a b : ℕ) → 0 < b → a * b + b ≡ 0 → ⊥
-            none a b h q = omega arith
-
--- ---- the table's fields
-
--- how many ones each limit has; past the last op there are none, and the limits are 0
-abbrev immWidths : List ℕ
-immWidths = 0 ∷ 10 ∷ 16 ∷ 0 ∷ 0 ∷ 16 ∷ 12 ∷ 0 ∷ 0 ∷ 0 ∷ 0 ∷ 0 ∷ 0 ∷ 0 ∷ 0 ∷ 0 ∷ 10 ∷ []
-
-abbrev vbWidths : List ℕ
-vbWidths = 0 ∷ 2 ∷ 0 ∷ 0 ∷ 0 ∷ 0 ∷ 0 ∷ 0 ∷ 4 ∷ 4 ∷ 0 ∷ 0 ∷ 0 ∷ 0 ∷ 0 ∷ 0 ∷ 2 ∷ []
-
-abbrev vcWidths : List ℕ
-vcWidths = 0 ∷ 0 ∷ 0 ∷ 0 ∷ 4 ∷ 0 ∷ 4 ∷ 4 ∷ 4 ∷ 4 ∷ 4 ∷ 4 ∷ 4 ∷ 4 ∷ 4 ∷ 0 ∷ 0 ∷ []
-
-abbrev vdWidths : List ℕ
-vdWidths = 0 ∷ 4 ∷ 4 ∷ 4 ∷ 4 ∷ 4 ∷ 4 ∷ 4 ∷ 4 ∷ 4 ∷ 4 ∷ 4 ∷ 4 ∷ 4 ∷ 4 ∷ 0 ∷ 4 ∷ []
-
-abbrev ones : List ℕ → List ℕ → ℕ → Bool
-ones limits widths k =
-    eqb (32 - getD widths k 0 + getD widths k 0) 32
-    && (eqb (past (getD limits k 0)) (2 ^ 32 - 2 ^ getD widths k 0) && eqb (getD limits k 0 + 1) (2 ^ getD widths k 0))
-
-field-fits : (limits widths : List ℕ) (k x : ℕ) → allBelow 32 (ones limits widths) ≡ true → k < 32 → x < 2 ^ 32 → bitAnd x (past (getD limits k 0)) ≡ 0
-    → leb x (getD limits k 0) ≡ true
-field-fits limits widths k x t l h e =
-    let row = below-all 32 (ones limits widths) k t l in
-    let w = getD widths k 0 in
-    let a = eqb-true (32 - w + w) 32 (and-left (eqb (32 - w + w) 32) _ row) in
-    let bc = and-right (eqb (32 - w + w) 32) _ row in
-    let b = eqb-true (past (getD limits k 0)) (2 ^ 32 - 2 ^ w) (and-left (eqb (past (getD limits k 0)) (2 ^ 32 - 2 ^ w)) _ bc) in
-    let c = eqb-true (getD limits k 0 + 1) (2 ^ w) (and-right (eqb (past (getD limits k 0)) (2 ^ 32 - 2 ^ w)) _ bc) in
-    let x-fits = within-ones w (32 - w) x a h (sym (ap (λ (m : ℕ). bitAnd x m) b) ∙ e) in
-    le-leb x (getD limits k 0) (omega (arith, c, x-fits))
-
--- a mod that the table has draws no refusal
-abbrev allowed : ℕ → ℕ → Bool
-allowed k j =
-    not (bit (getD plainMods k 0) j)
-    || (opKnown k && (modAllowed k (j % 16) && (not (wideLoad k (j % 16)) && (ltb j 16 || (not (eqb k 8 || eqb k 9) || eqb (j % 16) 1)))))
-
-all-allowed : allBelow 32 (λ k. allBelow 32 (allowed k)) ≡ true
-all-allowed = refl
-
-or-left : (a b : Bool) → a ≡ true → (not a || b) ≡ true → b ≡ true
-or-left true b e h = h
-or-left false b e h = absurd (false≢true e)
-
-record Allowed (op vb m : ℕ) : Type 0 where
-  known : opKnown op ≡ true
-  mods : modAllowed op m ≡ true
-  narrow : not (wideLoad op m) ≡ true
-  tied : vbTied op vb m ≡ true
-
-allowed-is : (op vb m : ℕ) → op < 32 → m < 16 → bit (getD plainMods op 0) (pick (eqb vb 0) m (m + 16)) ≡ true → Allowed op vb m
-allowed-is op vb m ho hm e = by (eqb vb 0) refl
-  where
-    at : (j : ℕ) → j < 32 → bit (getD plainMods op 0) j ≡ true
-        → (opKnown op && (modAllowed op (j % 16) && (not (wideLoad op (j % 16)) && (ltb j 16 || (not (eqb op 8 || eqb op 9) || eqb (j % 16) 1))))) ≡ true
-    at j l q = or-left (bit (getD plainMods op 0) j) _ q (below-all 32 (allowed op) j (below-all 32 (λ k. allBelow 32 (allowed k)) op all-allowed ho) l)
-
-    made : (j : ℕ) → j % 16 ≡ m
-        → (opKnown op && (modAllowed op (j % 16) && (not (wideLoad op (j % 16)) && (ltb j 16 || (not (eqb op 8 || eqb op 9) || eqb (j % 16) 1))))) ≡ true
-        → ((ltb j 16 || (not (eqb op 8 || eqb op 9) || eqb (j % 16) 1)) ≡ true → vbTied op vb m ≡ true)
-        → Allowed op vb m
-    made j q h k =
-        let r = and-right (opKnown op) _ h in
-        let rr = and-right (modAllowed op (j % 16)) _ r in
-        record {
-          known = and-left (opKnown op) _ h;
-          mods = sym (ap (λ (x : ℕ). modAllowed op x) q) ∙ and-left (modAllowed op (j % 16)) _ r;
-          narrow = sym (ap (λ (x : ℕ). not (wideLoad op x)) q) ∙ and-left (not (wideLoad op (j % 16))) _ rr;
-          tied = k (and-right (not (wideLoad op (j % 16))) _ rr);
-        }
-
-    by : (t : Bool) → eqb vb 0 ≡ t → Allowed op vb m
-    by true q =
-        made m (omega arith) (at m (omega arith) (sym (ap (λ (x : ℕ). bit (getD plainMods op 0) x) (pick-true (eqb vb 0) m (m + 16) q)) ∙ e))
-        (λ h. ap (λ (t : Bool). t || not (eqb op 8 || eqb op 9) || eqb m 1) q)
-    by false q =
-        made (m + 16) (omega arith) (at (m + 16) (omega arith) (sym (ap (λ (x : ℕ). bit (getD plainMods op 0) x) (pick-false (eqb vb 0) m (m + 16) q)) ∙ e))
-        (λ h.
-        ap (λ (t : Bool). t || not (eqb op 8 || eqb op 9) || eqb m 1) q
-        ∙ ap (λ (x : ℕ). not (eqb op 8 || eqb op 9) || eqb x 1) (sym (last m hm))
-        ∙ sym (ap (λ (t : Bool). t || (not (eqb op 8 || eqb op 9) || eqb ((m + 16) % 16) 1)) (le-ltb (m + 16) 16 (omega arith))) ∙ h)
-      where
-        last : (m : ℕ) → m < 16 → (m + 16) % 16 ≡ m
-        last m h = omega arith
+    whole : bitAnd (pair a b) (pair (past l) (past m)) ≡ bitAnd b (past m) * 2 ^ 32 + bitAnd a (past l)
+    whole = ap₂ bitAnd (swap a (b * 2 ^ 32)) (swap (past l) (past m * 2 ^ 32)) ∙ and-block 32 b (past m) a (past l) ha (omega arith)
 
 -- ---- the instruction
 
@@ -155,53 +80,83 @@ pub record Words32 (i : Insn) : Type 0 where
   pub vd : i .vd < 2 ^ 32
   pub md : i .md < 2 ^ 32
 
-past-lt : (n : ℕ) → past n < 2 ^ 32
-past-lt n = omega arith
+-- every limit of a table is ones alone; past the last op it is 0
+all-ones : (limits : List ℕ) (k : ℕ) → allBelow 32 (λ k. ones (getD limits k 0)) ≡ true → k < 32 → ones (getD limits k 0) ≡ true
+all-ones limits k t h = below-all 32 (λ k. ones (getD limits k 0)) k t h
 
-facts-good : (i : Insn) → Allowed (i .op) (i .vb) (i .md) → leb (i .imm) (getD immLimits (i .op) 0) ≡ true → leb (i .vb) (getD vbLimits (i .op) 0) ≡ true
-    → leb (i .vc) (getD vcLimits (i .op) 0) ≡ true → leb (i .vd) (getD vdLimits (i .op) 0) ≡ true
-    → 0 ≡ instructionAnswer true i
-unfolding instructionAnswer pass fieldsGood
-facts-good i a p q r t =
-    sym
-    (pick-true (opKnown (i .op)) _ 7 (a .known)
-    ∙ pick-true (fieldsGood (i .op) i && true) _ 8
-    (both _ true (both _ _ (both _ _ (both _ _ (both _ _ (both _ _ p q) r) t) (a .mods)) (a .tied)) refl)
-    ∙ pick-true (not (wideLoad (i .op) (i .md))) 0 9 (a .narrow))
-  where
-    both : (a b : Bool) → a ≡ true → b ≡ true → (a && b) ≡ true
-    both a b h k = ap (λ (x : Bool). x && b) h ∙ k
+-- no field is over exactly where each is within its limit, op below 32 and mod below 16
+fields-are : (i : Insn) (k : ℕ) → Words32 i → k < 32
+    → noneOver (overOf k) i
+    ≡ (leb (i .op) 31 && within immLimits k (i .imm) && (within vbLimits k (i .vb) && within vcLimits k (i .vc)) && (within vdLimits k (i .vd) && leb (i .md) 15))
+unfolding noneOver overOf over leadingZeros
+fields-are i k h l =
+    simp (
+      or-zero,
+      pair-within (i .op) (i .imm) 31 (getD immLimits k 0) (h .op) (h .imm) refl (all-ones immLimits k refl l),
+      pair-within (i .vb) (i .vc) (getD vbLimits k 0) (getD vcLimits k 0) (h .vb) (h .vc) (all-ones vbLimits k refl l) (all-ones vcLimits k refl l),
+      pair-within (i .vd) (i .md) (getD vdLimits k 0) 15 (h .vd) (h .md) (all-ones vdLimits k refl l) refl,
+    )
 
--- a mod below 16 is where the table has it
-place-is : (m vb : ℕ) → m < 16 → pick (eqb vb 0) m (m + 16) ≡ modPlace m vb
+-- the table has exactly the mods that draw no refusal, where vb is 0 and where it isn't
+abbrev allowed : ℕ → ℕ → Bool → Bool
+allowed k m z =
+    opKnown k && modAllowed k m && not (wideLoad k m) && ((z || not (eqb (getD vbLimits k 0) 0)) && (z || not (eqb k 8 || eqb k 9) || eqb m 1))
+
+abbrev listed : ℕ → ℕ → Bool → Bool
+listed k m z = bit (getD plainMods k 0) ((m % 32 + pick z 0 16) % 32)
+
+abbrev alike : ℕ → ℕ → Bool
+alike k m = Bool·beq (listed k m true) (allowed k m true) && Bool·beq (listed k m false) (allowed k m false)
+
+all-alike : allBelow 32 (λ k. allBelow 16 (alike k)) ≡ true
 unfolding pick
-place-is m vb h = by (eqb vb 0)
-  where
-    by : (t : Bool) → pick t m (m + 16) ≡ (m % 32 + pick t 0 16) % 32
-    by true = omega arith
-    by false = omega arith
+all-alike = refl
 
-pub plain-good : (i : Insn) → Words32 i → plain i ≡ true → 0 ≡ instructionAnswer true i
-unfolding noneOver overOf over
-plain-good i h e =
-    let z = eqb-true _ 0 (and-left (noneOver (overOf (i .op % 32)) i) (bit (overOf (i .op % 32) .mods) (modPlace (i .md) (i .vb))) e) in
-    let p = no-or _ _ z in
-    let q = no-or _ _ (p .0) in
-    let l = no-pair (i .imm) (past (getD immLimits (i .op % 32) 0)) (i .op) (past 31) (h .op) (past-lt 31) (q .0) in
-    let m = no-pair (i .vc) (past (getD vcLimits (i .op % 32) 0)) (i .vb) (past (getD vbLimits (i .op % 32) 0)) (h .vb) (past-lt _) (q .1) in
-    let r = no-pair (i .md) (past 15) (i .vd) (past (getD vdLimits (i .op % 32) 0)) (h .vd) (past-lt _) (p .1) in
-    let op32 : i .op < 32 = within-ones 5 27 (i .op) refl (h .op) (l .1) in
-    let md16 : i .md < 16 = within-ones 4 28 (i .md) refl (h .md) (r .0) in
-    let k32 : i .op % 32 < 32 = omega arith in
-    let ko : i .op % 32 ≡ i .op = omega arith in
-    facts-good i
-    (allowed-is (i .op) (i .vb) (i .md) op32 md16
-    (sym (ap (λ (x : ℕ). bit (getD plainMods x 0) (pick (eqb (i .vb) 0) (i .md) (i .md + 16))) ko)
-    ∙ ap (λ (x : ℕ). bit (getD plainMods (i .op % 32) 0) x) (place-is (i .md) (i .vb) md16) ∙ and-right (noneOver (overOf (i .op % 32)) i) (bit (overOf (i .op % 32) .mods) (modPlace (i .md) (i .vb))) e))
-    (sym (ap (λ (x : ℕ). leb (i .imm) (getD immLimits x 0)) ko) ∙ field-fits immLimits immWidths (i .op % 32) (i .imm) refl k32 (h .imm) (l .0))
-    (sym (ap (λ (x : ℕ). leb (i .vb) (getD vbLimits x 0)) ko) ∙ field-fits vbLimits vbWidths (i .op % 32) (i .vb) refl k32 (h .vb) (m .1))
-    (sym (ap (λ (x : ℕ). leb (i .vc) (getD vcLimits x 0)) ko) ∙ field-fits vcLimits vcWidths (i .op % 32) (i .vc) refl k32 (h .vc) (m .0))
-    (sym (ap (λ (x : ℕ). leb (i .vd) (getD vdLimits x 0)) ko) ∙ field-fits vdLimits vdWidths (i .op % 32) (i .vd) refl k32 (h .vd) (r .1))
+mods-are : (k m : ℕ) (z : Bool) → k < 32 → m < 16 → listed k m z ≡ allowed k m z
+mods-are k m z hk hm = by z (below-all 16 (alike k) m (below-all 32 (λ k. allBelow 16 (alike k)) k all-alike hk) hm)
+  where
+    same : (a b : Bool) → Bool·beq a b ≡ true → a ≡ b
+    same true true h = refl
+    same true false h = sym h
+    same false true h = h
+    same false false h = refl
+
+    by : (z : Bool) → alike k m ≡ true → listed k m z ≡ allowed k m z
+    by true h = same (listed k m true) (allowed k m true) (and-left _ (Bool·beq (listed k m false) (allowed k m false)) h)
+    by false h = same (listed k m false) (allowed k m false) (and-right (Bool·beq (listed k m true) (allowed k m true)) _ h)
+
+-- none is refused exactly where all three tests hold
+answer-zero : (a b c : Bool) → eqb (pass a 7 (pass b 8 (pass c 9 0))) 0 ≡ (a && b && c)
+unfolding pass pick
+answer-zero false b c = refl
+answer-zero true false c = refl
+answer-zero true true false = refl
+answer-zero true true true = refl
+
+-- a field that isn't 0 has a limit that isn't
+not-zero : (x l : ℕ) → (leb x l && (eqb x 0 || not (eqb l 0))) ≡ leb x l
+not-zero x l =
+    split x 1 (λ p. split l x (λ q. simp (ne-eqb l 0 (λ e. omega arith), or-true, and-true)) (λ q. simp (lt-leb x l q)))
+    (λ p. simp (eq-eqb x 0 (omega arith), and-true))
+
+sorted : (p q r t k m n o d : Bool) → (p && (q && r) && (t && true) && (k && m && n && (o && d))) ≡ (k && (p && (q && o) && r && t && m && d && true) && n)
+sorted p q r t k m n o d = simp (and-assoc, and-comm, left-comm)
+  where
+    left-comm : (a b c : Bool) → (a && (b && c)) ≡ (b && (a && c))
+    left-comm true b c = refl
+    left-comm false b c = sym (and-false b)
+
+pub plain-exact : (i : Insn) → Words32 i → plain i ≡ eqb (instructionAnswer true i) 0
+unfolding overOf over instructionAnswer fieldsGood
+plain-exact i h =
+    ap (λ (t : Bool). t && listed (i .op % 32) (i .md) (eqb (i .vb) 0)) (fields-are i (i .op % 32) h (omega arith))
+    ∙ split (i .op) 32 (λ p. simp (lt-leb (i .op) 31 (omega arith), lt-leb (i .op) 16 (omega arith), and-false))
+    (λ p.
+    split (i .md) 16 (λ q. simp (lt-leb (i .md) 15 (omega arith), le-ltb (i .md) 16 q, and-false))
+    (λ q.
+    let k : i .op % 32 ≡ i .op = omega arith in
+    rw (k, le-leb (i .op) 31 (omega arith), le-leb (i .md) 15 (omega arith), mods-are (i .op) (i .md) (eqb (i .vb) 0) p q, sorted, not-zero)))
+    ∙ sym (answer-zero (opKnown (i .op)) (fieldsGood (i .op) i && true) (not (wideLoad (i .op) (i .md))))
 
 -- ---- the union of the lanes' words
 

@@ -1,5 +1,5 @@
 -- Pass over this page with document 01 in the other hand: it is the vocabulary of private functions, and no promise rests on it. It has
--- the quick test of an instruction, before the exact one.
+-- the quick test of an instruction, whether any check refuses it, before the exact one, which says by what number.
 use Prim.Native.Nat.{ℕ, _+_, _-_, _*_, _%_, _^_}
 use mathlib.Core.Bool.{Bool, _&&_}
 use mathlib.Core.List.{List, [], _∷_}

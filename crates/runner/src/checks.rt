@@ -15,6 +15,7 @@ use lane::words::keep;
 ghost use mathlib.Core.Path.{_≡_};
 ghost use mathlib.Core.Bool.{true};
 ghost use Prim.Native.Nat.{_*_, _%_, _<_, _≤_};
+ghost use lib.Dec.{eqb};
 ghost use lib.ListN.{length};
 ghost use Rattle.lane.specs.Refusals.{instructionAnswer};
 ghost use Rattle.runner.specs.Image as Image;
@@ -41,8 +42,8 @@ fn image_good(image: &[u32]) -> bool
     well_formed(config, flag, uses, misc)
 }
 
-// The bits that an instruction's fields may not have, two fields to a word, and the mods that are allowed without more ado: mod m as bit m where
-// vb is 0, as bit 16 + m where it isn't.
+// The bits that an instruction's fields may not have, two fields to a word, and the mods that draw no refusal: mod m as bit m where vb is 0, as
+// bit 16 + m where it isn't.
 struct Over {
     left: u64,
     middle: u64,
@@ -117,9 +118,9 @@ fn mod_place(m: u32, vb: u32) -> u32
     (m % 32 + keep(vb == 0, 0, 16)) % 32
 }
 
-// Whether an instruction is plainly good.
-fn plain(i: Insn) -> bool
-    ensures { λ r. ⌜ r ≡ Quick.plain i ⌝ }
+// Whether no check refuses an instruction: its fields as bits, at once.
+pub fn accepts(i: Insn) -> bool
+    ensures { λ r. ⌜ r ≡ eqb (instructionAnswer true i) 0 ⌝ }
 {
     let o = over_of(i.op);
     let bad = (pair(i.op, i.imm) & o.left)
@@ -128,11 +129,11 @@ fn plain(i: Insn) -> bool
     (bad == 0) & ((o.mods >> mod_place(i.md, i.vb)) % 2 == 1)
 }
 
-// 7, 8, 9 or 0 for an instruction. All but the refused are plainly good, and that is quickly seen.
-pub fn answer_of(i: Insn) -> u32
+// 7, 8, 9 or 0 for an instruction. All but the refused are accepted, and that is quickly seen.
+fn answer_of(i: Insn) -> u32
     ensures { λ r. ⌜ r ≡ instructionAnswer true i ⌝ }
 {
-    if plain(i) {
+    if accepts(i) {
         return 0;
     }
     instruction_answer(true, i)

@@ -1,21 +1,28 @@
 use Prim.Native.Nat.{_-_}
 use borrow.Author.Needs.{needs}
 use native.Mathlib.Omega.{arith}
-use Rattle.listing.proofs.Readers.{Checking, checking-start, checking-more, checking-stop, checking-end}
+use Rattle.listing.specs.Forms.{bytes, spell}
+use Rattle.listing.specs.PrivateReader.{Checking}
+use Rattle.listing.proofs.LineRows.{low-rows, high-rows}
+use Rattle.listing.proofs.Readers.{checking-more, checking-stop, checking-end}
 use Rattle.listing.proofs.reader.check_lines.Statement.{statement}
 use Rattle.listing.proofs.reader.check_lines.Tie as tie
 
 abbrev Inv-loop : tie.InvT-loop
-Inv-loop text from first count at₀ answer₀ place₀ i₀ at answer place i = Checking text from first count at answer place i
+Inv-loop text from first count at₀ answer₀ place₀ i₀ at answer place i = Checking text from count at answer place i
 
 abbrev μ-loop : tie.MeasureT-loop
 μ-loop text from first count at₀ answer₀ place₀ i₀ at answer place i = count - i
 
+plain-lines-requires : tie.Need-plain-lines-requires Inv-loop μ-loop
+unfolding bytes spell
+plain-lines-requires c κs = ((low-rows, high-rows), c .before .before .before .pre .0)
+
 loop-holds : tie.Need-loop-holds Inv-loop μ-loop
-loop-holds c = checking-start _ _ _ _ (c .before .pre .0)
+loop-holds c = c .plain-lines .ensures
 
 add-read-form : tie.Need-add-read-form Inv-loop μ-loop
-add-read-form c = omega arith
+add-read-form c = omega (arith, c .before .loop .inv .upTo, c .before .before .before .before .before .before .pre .1, c .before .before .before .before .before .before .pre .2)
 
 read-form-requires : tie.Need-read-form-requires Inv-loop μ-loop
 read-form-requires c κs = search needs
@@ -30,19 +37,19 @@ loop-less : tie.Need-loop-less Inv-loop μ-loop
 loop-less c = omega arith
 
 loop-again : tie.Need-loop-again Inv-loop μ-loop
-loop-again c = checking-more _ _ _ _ _ _ _ _ (c .before .before .before .before .before .before .loop .inv) (c .before .before .before .before .read-form .result) (c .before .before .before .before .before .loop-test .taken) (c .before .before .before .before .read-form .ensures) (c .before .before .before .if1 .taken) (c .first-refused .result) (c .first-refused .ensures)
+loop-again c = checking-more _ _ _ _ _ _ _ (c .before .before .before .before .before .before .loop .inv) _ (c .before .before .before .before .read-form .result) (c .before .before .before .before .before .loop-test .taken) (c .before .before .before .before .read-form .ensures) (c .before .before .before .if1 .taken) (c .first-refused .result) (c .first-refused .ensures)
 
-cast-t17 : tie.Need-cast-t17 Inv-loop μ-loop
-cast-t17 c = omega (arith, c .before .read-form .ensures .few, c .before .before .before .loop .inv .upTo, c .before .before .before .before .before .pre .1, c .before .before .before .before .before .pre .2)
+cast-t22 : tie.Need-cast-t22 Inv-loop μ-loop
+cast-t22 c = omega (arith, c .before .read-form .ensures .few, c .before .before .before .loop .inv .upTo, c .before .before .before .before .before .before .before .before .pre .1, c .before .before .before .before .before .before .before .before .pre .2)
 
 returns : tie.Need-returns Inv-loop μ-loop
-returns c = checking-stop _ _ _ _ _ _ _ _ (c .before .before .before .loop .inv) (c .before .read-form .result) (c .before .before .loop-test .taken) (c .before .read-form .ensures) (c .if1 .left)
+returns c = checking-stop _ _ _ _ _ _ _ (c .before .before .before .loop .inv) _ (c .before .read-form .result) (c .before .before .loop-test .taken) (c .before .read-form .ensures) (c .if1 .left)
 
-add-t18 : tie.Need-add-t18 Inv-loop μ-loop
-add-t18 c = omega (arith, c .before .loop .inv .upTo, c .before .before .before .pre .1, c .before .before .before .pre .2)
+add-t23 : tie.Need-add-t23 Inv-loop μ-loop
+add-t23 c = omega (arith, c .before .loop .inv .upTo, c .before .before .before .before .before .before .pre .1, c .before .before .before .before .before .before .pre .2)
 
 returns-2 : tie.Need-returns-2 Inv-loop μ-loop
-returns-2 c = checking-end _ _ _ _ _ _ _ _ (c .before .loop .inv) (c .loop-test .left)
+returns-2 c = checking-end _ _ _ _ _ _ _ (c .before .loop .inv) _ (c .loop-test .left)
 
 pub check-lines-spec : {M : Type 1} → statement M
 check-lines-spec =
@@ -50,6 +57,7 @@ check-lines-spec =
     (tie.spec
     Inv-loop
     μ-loop
+    plain-lines-requires
     loop-holds
     add-read-form
     read-form-requires
@@ -57,7 +65,7 @@ check-lines-spec =
     add-i
     loop-less
     loop-again
-    cast-t17
+    cast-t22
     returns
-    add-t18
+    add-t23
     returns-2)

@@ -1,8 +1,9 @@
 use lib.ListN.{length}
 use mathlib.Core.Path.{refl, _∙_, _≡_}
 use native.Mathlib.Omega.{arith}
+use Rattle.runner.specs.Checks.{listAnswer}
 use Rattle.listing.specs.Listing.{acceptedWriting}
-use Rattle.listing.proofs.Writers.{few-words, lines-few, listing-length, write-refused, write-short, write-done}
+use Rattle.listing.proofs.Writers.{few-words, lines-few, list-named, listing-length, write-refused, write-short, write-done}
 use borrow.Author.Needs.{needs}
 use Rattle.listing.proofs.writer.write.Statement.{statement}
 use Rattle.listing.proofs.writer.write.Tie as tie
@@ -18,7 +19,8 @@ returns c = let a = c .before .before .before .before .before .before .args in l
     (rw e (c .refused .ensures), rw e refl)
 
 lines-length-requires : tie.Need-lines-length-requires
-lines-length-requires c κs = few-words (c .before .before .before .before .before .args .s) (c .before .before .before .before .before .args .list .now) (rw (← (c .before .before .list-answer .ensures)) (c .if1 .left))
+lines-length-requires c κs = let e : listAnswer (c .before .before .before .before .before .args .s) (c .before .before .before .before .before .args .list .now) .answer ≡ 0 = rw (← (c .before .before .list-answer .ensures)) (c .if1 .left) in
+    (few-words (c .before .before .before .before .before .args .s) (c .before .before .before .before .before .args .list .now) e, list-named (c .before .before .before .before .before .args .s) (c .before .before .before .before .before .args .list .now) e)
 
 add-n : tie.Need-add-n
 add-n c = let a = c .before .before .before .before .before .before .args in omega (arith, c .lines-length .ensures, lines-few (a .list .now), few-words (a .s) (a .list .now) (rw (← (c .before .before .before .list-answer .ensures)) (c .before .if1 .left)))
@@ -32,8 +34,8 @@ returns-2 c = let a = c .before .before .before .before .before .before .before 
     (rw e (c .refused2 .ensures), rw e refl)
 
 put-listing-requires : tie.Need-put-listing-requires
-put-listing-requires c κs = let a = c .before .before .before .before .before .before .before .before .args in
-    (few-words (a .s) (a .list .now) (rw (← (c .before .before .before .before .before .list-answer .ensures)) (c .before .before .before .if1 .left)), omega (arith, c .before .before .lines-length .ensures, listing-length (a .s) (a .list .now), c .before .if2 .left))
+put-listing-requires c κs = let a = c .before .before .before .before .before .before .before .before .args in let e : listAnswer (a .s) (a .list .now) .answer ≡ 0 = rw (← (c .before .before .before .before .before .list-answer .ensures)) (c .before .before .before .if1 .left) in
+    (few-words (a .s) (a .list .now) e, list-named (a .s) (a .list .now) e, omega (arith, c .before .before .lines-length .ensures, listing-length (a .s) (a .list .now), c .before .if2 .left))
 
 same-length : tie.Need-same-length
 same-length c = search needs
