@@ -7,10 +7,10 @@ ghost use Rattle.listing.specs.Forms as Forms;
 ghost use Rattle.listing.specs.Listing as Listing;
 ghost use Rattle.listing.specs.PrivateReader as Held;
 
-// The format of an old listing, and the one that is written.
+// The numbers of the formats: an old listing has the first, and a line format=2 the second, which is the one that is written.
 pub(crate) const OLD: u8 = 1;
 
-pub(crate) const WRITTEN: u8 = 2;
+pub(crate) const TWO: u8 = 2;
 
 // The first line that marks format 2.
 const MARK_2: [u8; 9] = *b"format=2\n";
@@ -35,7 +35,7 @@ pub(crate) fn format_of(text: &[u8]) -> u8
     ensures { λ r. ⌜ Held.FormatOf (now (text .entry)) r ⌝ }
 {
     if begins(text, &MARK_2) {
-        return WRITTEN;
+        return TWO;
     }
     OLD
 }
@@ -44,7 +44,7 @@ pub(crate) fn format_of(text: &[u8]) -> u8
 pub(crate) fn limit_of(format: u8) -> u32
     ensures { λ r. ⌜ r ≡ Held.formatBy format .limit ⌝ }
 {
-    if format == WRITTEN {
+    if format == TWO {
         return LIST_LIMIT as u32;
     }
     1024
@@ -54,7 +54,7 @@ pub(crate) fn limit_of(format: u8) -> u32
 pub(crate) fn first_line(format: u8) -> u32
     ensures { λ r. ⌜ r ≡ Listing.firstLine (Held.formatBy format) ⌝ }
 {
-    if format == WRITTEN {
+    if format == TWO {
         return 11;
     }
     10

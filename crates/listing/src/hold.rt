@@ -4,7 +4,7 @@ use crate::HEAD_2;
 use crate::LINE;
 use crate::OLD_HEAD;
 use crate::Scanned;
-use crate::formats::WRITTEN;
+use crate::formats::TWO;
 use crate::forms::scan;
 ghost use mathlib.Core.Path.{_≡_};
 ghost use Rattle.listing.specs.PrivateReader as Held;
@@ -34,7 +34,7 @@ fn scan_at(text: &[u8], at: usize, line: u32, form: u8) -> Scanned
     if form == LINE_FORM {
         return scan(text, at, line, &LINE);
     }
-    if form == WRITTEN {
+    if form == TWO {
         return scan(text, at, line, &HEAD_2);
     }
     scan(text, at, line, &OLD_HEAD)
