@@ -2,7 +2,7 @@
  *
  * Everything is lent by the caller. The library keeps nothing between calls, allocates nothing, and writes only to what is passed without
  * `const`. Parts lent to one call must not overlap. Calls that share nothing writable, no Dst either, may run at the same time. Of the
- * stack a report takes less than 80 KB, and every other call less than 2 KB, however long its list or its listing is.
+ * stack a report takes less than 80 KB, and every other call less than 4 KB, however long its list or its listing is.
  *
  * Pointers. A length counts elements, not bytes. A part that comes with a length may be NULL where that length is 0, as the data() of an
  * empty std::vector often is: nothing is read or written through it. Every other pointer (settings, outcome, walk, insn, own, head,

@@ -18,7 +18,7 @@
 enum { LAST_OP = REPLAY_OP_STORE, LAST_ANSWER = REPLAY_NO_STEP, LONGEST = REPLAY_LIST / 6, FEW = 1024, BYTES = 1048576, FEW_BYTES = 65536 };
 
 /* The bytes of stack that the header allows a call, and a report. */
-enum { STACK = 2 * 1024, REPORT_STACK = 80 * 1024 };
+enum { STACK = 4 * 1024, REPORT_STACK = 80 * 1024 };
 
 /* The outcome has room for a run's; reading and writing take the first five words, and the start of a walk the first four. Of the entries a
  * topic has the first `lent` words. */
