@@ -15,7 +15,16 @@ use Rattle.lane.specs.Rule.{lanewise, storesOf, cellsOf}
 use Rattle.lane.specs.Refusals.{laneStep}
 use Rattle.lane.proofs.Cases.{pick-false}
 
--- equal own words, equal words in row 0 and equal cells give equal lanes
+-- equal own words, equal words in row 0 and equal cells give equal stores
+pub same-stores : (op : ℕ) (s : Settings) (a : ℕ) (i : Insn) (L : ℕ) (head head′ : Lane) (even even′ odd odd′ : ℕ) (own own′ : Lane)
+    → head ≡ head′
+    → even ≡ even′
+    → odd ≡ odd′
+    → own ≡ own′
+    → storesOf op s a i L head even odd own ≡ storesOf op s a i L head′ even′ odd′ own′
+same-stores op s a i L head head′ even even′ odd odd′ own own′ p q r t = cc
+
+-- and so equal lanes
 pub same-lane : (op : ℕ) (s : Settings) (a : ℕ) (i : Insn) (L : ℕ) (head head′ : Lane) (even even′ odd odd′ : ℕ) (own own′ : Lane)
     → head ≡ head′
     → even ≡ even′

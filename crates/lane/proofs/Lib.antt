@@ -10,5 +10,6 @@ pub mod Stores
 pub mod Answers
 pub mod Accepted
 pub mod Depends
+pub mod Counted
 -- Why register 8 holds its word: nothing cites it.
 pub mod Register8

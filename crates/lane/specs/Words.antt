@@ -105,6 +105,15 @@ unfoldable pub after : Stores → Lane → Lane
 after [] own = own
 after (s ∷ rest) own = after rest (upd own (s .0) (s .1))
 
+-- Document 02, M-106: "the number of stores to registers 0 to 7 and 11 to 14", which are slots 0 to 11: not of LaneConfig, flags, templates, sequences or
+-- Misc, which lie past them. "A store to the same word twice" counts twice.
+abbrev pub isRegister : ℕ → Bool
+isRegister s = ltb s 12
+
+unfoldable pub registerStores : Stores → ℕ
+registerStores [] = 0
+registerStores (s ∷ rest) = flagOf (isRegister (s .0)) + registerStores rest
+
 -- 24 words after the stores of a lane.
 unfoldable pub wordsAfter : Stores → List ℕ → List ℕ
 wordsAfter stores ws = wordsOf (after stores (laneOf ws))

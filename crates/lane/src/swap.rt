@@ -8,31 +8,21 @@ ghost use lib.Dec.{ltb};
 ghost use Rattle.lane.specs.Words.{pick};
 ghost use Rattle.lane.specs.Swap as Swap;
 
-// For each mod, the lanes in which vd wants the minimum, lane 0 the lowest bit.
-const MASKS: [u32; 16] = [
-    0,
-    0xFFFFFFFF,
-    0x0000FFFF,
-    0x00FF00FF,
-    0xFF0000FF,
-    0x000000FF,
-    0x0000FF00,
-    0x00FF0000,
-    0xFF000000,
-    0,
-    0,
-    0,
-    0,
-    0,
-    0,
-    0,
-];
-
-// The lanes in which vd wants the minimum, for mod `m`; none for a number that is no mod.
+// The lanes in which vd wants the minimum, for mod `m`, lane 0 the lowest bit; none from 9 on. A table that is not built on the stack at every call.
 pub fn mask_of(m: u32) -> u32
     ensures { λ r. ⌜ r ≡ Swap.maskOf m ⌝ }
 {
-    if m < 16 { MASKS[m as usize] } else { 0 }
+    match m {
+        1 => 0xFFFFFFFF,
+        2 => 0x0000FFFF,
+        3 => 0x00FF00FF,
+        4 => 0xFF0000FF,
+        5 => 0x000000FF,
+        6 => 0x0000FF00,
+        7 => 0x00FF0000,
+        8 => 0xFF000000,
+        _ => 0,
+    }
 }
 
 // Whether a lane is among those of a mask.
