@@ -1,4 +1,4 @@
-/* A host in C: runs three lists, looks at registers and ties, and walks over a list and back. examples/build-host builds and runs it. */
+/* A host in C: runs three lists, looks at registers, ties and stores, and walks over a list and back. examples/build-host builds and runs it. */
 #include "replay.h"
 #include "replay_text.h"
 
@@ -33,17 +33,24 @@ static void show(uint32_t reg)
     printf(count ? "\n" : " is not stored\n");
 }
 
+static void show_counts(const char *what, const uint32_t *counts)
+{
+    printf("%s by column:", what);
+    for (size_t column = 0; column < REPLAY_COLUMNS; column++) printf(" %u", (unsigned)counts[column]);
+    printf("\n");
+}
+
 static void run(const uint32_t settings[8], const uint32_t *words, size_t len)
 {
-    uint32_t outcome[12];
+    uint32_t outcome[REPLAY_OUTCOME];
     uint32_t answer = replay_run(settings, image, REPLAY_IMAGE, dst, REPLAY_DST, words, len, outcome);
     if (answer != REPLAY_DONE) {
         printf("refused by %u at instruction %u: %s\n", (unsigned)answer, (unsigned)outcome[REPLAY_OUTCOME_PLACE], replay_refusal_text(answer));
         return;
     }
-    printf("%u steps, cursor %u, ties by column", (unsigned)outcome[REPLAY_OUTCOME_STEPS], (unsigned)outcome[REPLAY_OUTCOME_CURSOR]);
-    for (size_t column = 0; column < REPLAY_COLUMNS; column++) printf(" %u", (unsigned)outcome[REPLAY_OUTCOME_TIES + column]);
-    printf("\n");
+    printf("%u steps, cursor %u\n", (unsigned)outcome[REPLAY_OUTCOME_STEPS], (unsigned)outcome[REPLAY_OUTCOME_CURSOR]);
+    show_counts("ties", outcome + REPLAY_OUTCOME_TIES);
+    show_counts("stores", outcome + REPLAY_OUTCOME_STORES);
 }
 
 /* Lane 31 of register 2 at each step over the list `sum`, to its end and back to its start. */

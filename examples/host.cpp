@@ -61,7 +61,7 @@ int main()
     std::vector<uint32_t> image(REPLAY_IMAGE);
     std::vector<uint32_t> none;
     std::vector<uint16_t> dst(REPLAY_DST);
-    std::array<uint32_t, 12> outcome;
+    std::array<uint32_t, REPLAY_OUTCOME> outcome;
     say("no list", replay_run(settings.data(), image.data(), image.size(), dst.data(), dst.size(), none.data(), none.size(), outcome.data()));
     say("no image", replay_run(settings.data(), none.data(), none.size(), dst.data(), dst.size(), none.data(), none.size(), outcome.data()));
 

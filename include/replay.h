@@ -21,13 +21,14 @@ extern "C" {
 
 /* What is replayed: 1000 is document 01 by itself, and 1000 plus n is with the requests up to M-n. A later request may change what a word
  * means, so a host that loads the library at run time compares this with replay_version(). */
-#define REPLAY_VERSION 1105
+#define REPLAY_VERSION 1106
 
-/* The words of an image, the cells of a Dst, the words of a walk's entry and of the longest list, and the bytes of the longest listing and
- * report. */
+/* The words of an image, the cells of a Dst, the words of a walk's entry, of a run's outcome and of the longest list, and the bytes of the
+ * longest listing and report. */
 #define REPLAY_IMAGE 768
 #define REPLAY_DST 16384
 #define REPLAY_ENTRY 802
+#define REPLAY_OUTCOME 20
 #define REPLAY_LIST 98304
 #define REPLAY_TEXT 737394
 #define REPLAY_REPORT 11190
@@ -94,13 +95,14 @@ enum replay_setting {
     REPLAY_SETTING_STRIDE3 = 7
 };
 
-/* The words of an outcome: a run's are 12, reading's and writing's 5, and those of a walk's start 4. */
+/* The words of an outcome: a run's are REPLAY_OUTCOME, reading's and writing's 5, and those of a walk's start 4. */
 enum replay_outcome {
     REPLAY_OUTCOME_ANSWER = 0,
     REPLAY_OUTCOME_STEPS = 1,
     REPLAY_OUTCOME_PLACE = 2,
     REPLAY_OUTCOME_CURSOR = 3,
     REPLAY_OUTCOME_TIES = 4,            /* of a run: eight words, column 0 first */
+    REPLAY_OUTCOME_STORES = 12,         /* of a run: eight words, column 0 first */
     REPLAY_OUTCOME_LENGTH = 4           /* of reading and writing */
 };
 
@@ -152,16 +154,21 @@ enum replay_entry {
  *   image     768 words, by enum replay_at
  *   dst       16,384 cells, row by row, 16 in a row; LOAD reads it and STORE writes it
  *   list      six words an instruction, by enum replay_insn
- *   outcome   answer, steps, place, cursor, and the ties of columns 0 to 7
+ *   outcome   answer, steps, place, cursor, the ties of columns 0 to 7, and the stores of columns 0 to 7
  *
  * Done: image and Dst are those after the list, steps is the number of instructions, place 0, and cursor the final one. The ties of a
  * column are counted over the list: in each SWAP with mod other than 0, each of its four lanes that is enabled, acts (vd is below 12, or
  * bit 4 of its LaneConfig is set) and holds one and the same word in vc and vd. Lanes count as they are before the instruction; vc and vd
  * may be the same register.
+ * The stores of a column are counted over the list too: every store that the rules make to registers 0 to 7 and 11 to 14 of its four lanes,
+ * also of a word that is there already; to the same word twice counts twice. An instruction makes at most one in a lane, but for two ops: LOAD
+ * makes a second where it captures the place; a SWAP that swaps makes one to each of vc and vd that it may store to and, with bit 2 set, two
+ * more for the exchange of the index registers, in either case also where the two are one register. So a column has at most 16 for each
+ * instruction. Flags, LaneConfig, Misc, templates, sequences and the cells of Dst are no registers, and what is stored there isn't counted.
  * Refused, by 1 to 9: image and Dst are untouched, steps is 0, cursor the one given, place the index of the instruction from 0 for 7 to 9,
- * else 0, and all eight ties are 0. */
+ * else 0, and all eight ties and all eight stores are 0. */
 uint32_t replay_run(const uint32_t settings[8], uint32_t *image, size_t image_len, uint16_t *dst, size_t dst_len,
-                    const uint32_t *list, size_t list_len, uint32_t outcome[12]);
+                    const uint32_t *list, size_t list_len, uint32_t outcome[REPLAY_OUTCOME]);
 
 /* Begins a walk: a list run one instruction at a time, forward and back, so that a host sees image and Dst in between.
  *
@@ -170,7 +177,7 @@ uint32_t replay_run(const uint32_t settings[8], uint32_t *image, size_t image_le
  *   walk      becomes where the walk stands, by enum replay_walk
  *
  * Done: the walk is at 0, with the cursor given, which is also the outcome's; steps and place are 0.
- * Refused, by 1 to 9 as a run is: `walk` is untouched, and the outcome is the run's but for the ties. */
+ * Refused, by 1 to 9 as a run is: `walk` is untouched, and the outcome is the run's but for ties and stores. */
 uint32_t replay_begin(const uint32_t settings[8], const uint32_t *image, size_t image_len, const uint16_t *dst, size_t dst_len,
                       const uint32_t *list, size_t list_len, uint32_t outcome[4], uint32_t walk[2]);
 
@@ -192,7 +199,7 @@ uint32_t replay_begin(const uint32_t settings[8], const uint32_t *image, size_t 
  * After n steps forward and m back that were done, in any order, image, Dst and cursor are those of n - m steps forward, and no refusal is
  * met but 12, if the walk began well and the host changes nothing that it lent between calls. An entry that it changed is taken as it stands,
  * image and cursor as they are (the step after it refuses by 6 or 3 what can't be), the address mod 1024 and a cell mod 65,536. Steps count
- * no ties. */
+ * neither ties nor stores. */
 uint32_t replay_forward(const uint32_t settings[8], uint32_t *image, size_t image_len, uint16_t *dst, size_t dst_len,
                         const uint32_t *list, size_t list_len, uint32_t *store, size_t store_len, uint32_t walk[2]);
 uint32_t replay_back(const uint32_t settings[8], uint32_t *image, size_t image_len, uint16_t *dst, size_t dst_len,

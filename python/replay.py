@@ -5,7 +5,7 @@ Words are array('I'), cells array('H'), texts bytes. An image and a Dst are chan
     settings, words, outcome = read(open("examples/store-and-load.lst", "rb").read())
     state, cells = image(), dst()
     outcome = run(settings, state, cells, words)
-    print(outcome.text, register(state, 0), cells[:16], outcome.ties)
+    print(outcome.text, register(state, 0), cells[:16], outcome.ties, outcome.stores)
 
 A walk runs a list one instruction at a time, forward and back:
 
@@ -20,8 +20,8 @@ import os
 from array import array
 from dataclasses import astuple, dataclass
 
-VERSION = 1105
-IMAGE, DST, ENTRY, LIST, TEXT, REPORT, LANES, COLUMNS = 768, 16384, 802, 98304, 737394, 11190, 32, 8
+VERSION = 1106
+IMAGE, DST, ENTRY, OUTCOME, LIST, TEXT, REPORT, LANES, COLUMNS = 768, 16384, 802, 20, 98304, 737394, 11190, 32, 8
 
 # The ops by number, and the answers in the clerk's words.
 OPS = (None, "LOAD", "LOADI", "LUT", "SWAP", "CONFIG", "IADD", "ABS", "AND", "OR", "XOR", "NOT", "LZ", "EXEXP", "EXMAN", "NOP", "STORE")
@@ -56,7 +56,7 @@ class Settings:
 
 @dataclass
 class Outcome:
-    """Of a run, `ties` has eight counts, column 0 first, all 0 on a refusal; only reading and writing have a length."""
+    """Of a run, `ties` and `stores` have eight counts each, column 0 first, all 0 on a refusal; only reading and writing have a length."""
 
     answer: int
     steps: int
@@ -64,6 +64,7 @@ class Outcome:
     cursor: int
     length: int = 0
     ties: tuple = ()
+    stores: tuple = ()
 
     @property
     def done(self):
@@ -114,9 +115,9 @@ def dst():
 
 def run(settings, image, dst, words):
     """Runs a list, six words an instruction, over an image and a Dst, which it changes in place."""
-    words, outcome = array("I", words), _zeros(12)
-    _library.replay_run(_settings(settings), *_part(image, "I"), *_part(dst, "H"), *_part(words, "I"), _fixed(outcome, 12))
-    return Outcome(*outcome[:4], ties=tuple(outcome[4:]))
+    words, outcome = array("I", words), _zeros(OUTCOME)
+    _library.replay_run(_settings(settings), *_part(image, "I"), *_part(dst, "H"), *_part(words, "I"), _fixed(outcome, OUTCOME))
+    return Outcome(*outcome[:4], ties=tuple(outcome[4:12]), stores=tuple(outcome[12:]))
 
 
 def begin(settings, image, dst, words, store=None):

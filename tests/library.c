@@ -20,9 +20,9 @@ enum { LAST_OP = REPLAY_OP_STORE, LAST_ANSWER = REPLAY_NO_STEP, LONGEST = REPLAY
 /* The bytes of stack that the header allows a call, and a report. */
 enum { STACK = 4 * 1024, REPORT_STACK = 80 * 1024 };
 
-/* The outcome has room for a run's; reading and writing take the first five words, and the start of a walk the first four. Of the entries a
- * topic has the first `lent` words. */
-static uint32_t image[REPLAY_IMAGE], list[REPLAY_LIST], settings[8], outcome[12], walk[2], entries[REPLAY_ENTRY * LONGEST];
+/* The outcome has room for a run's, and four words past it that no call may write; reading and writing take the first five words, and the
+ * start of a walk the first four. Of the entries a topic has the first `lent` words. */
+static uint32_t image[REPLAY_IMAGE], list[REPLAY_LIST], settings[8], outcome[REPLAY_OUTCOME + 4], walk[2], entries[REPLAY_ENTRY * LONGEST];
 static uint16_t dst[REPLAY_DST];
 static uint8_t text[BYTES + 1], room[REPLAY_REPORT + 1];
 static size_t lent;
@@ -140,7 +140,7 @@ static void words(void)
     expect(untouched(REPLAY_OUTCOME_LENGTH + 1), "five words of writing", 0);
     expect(replay_run(settings, image, REPLAY_IMAGE, dst, REPLAY_DST, list, 12, outcome) == REPLAY_DONE, "run", 0);
     expect(outcome[REPLAY_OUTCOME_ANSWER] == 0 && outcome[REPLAY_OUTCOME_STEPS] == 2 && outcome[REPLAY_OUTCOME_PLACE] == 0 &&
-           outcome[REPLAY_OUTCOME_CURSOR] == 10, "the outcome of a run", 0);
+           outcome[REPLAY_OUTCOME_CURSOR] == 10 && outcome[REPLAY_OUTCOME_TIES] == 0 && outcome[REPLAY_OUTCOME_STORES] == 4, "the outcome of a run", 0);
     second[REPLAY_INSN_MOD] = 2;
     expect(replay_run(settings, image, REPLAY_IMAGE, dst, REPLAY_DST, list, 12, outcome) == REPLAY_BAD_FIELD, "refused", 0);
     expect(outcome[REPLAY_OUTCOME_ANSWER] == 8 && outcome[REPLAY_OUTCOME_STEPS] == 0 && outcome[REPLAY_OUTCOME_PLACE] == 1 &&
@@ -306,7 +306,7 @@ static void formats(void)
 static void first_lines(void)
 {
     static const char *const others[] = {"format=1\n", "format=3\n", "format=2\r\n", "format=2 \n", " format=2\n", "FORMAT=2\n", "Format=2\n",
-                                         "format=02\n", "format=\n", "format=2", "format 2\n", "\n", "\nformat=2\n", "\xEF\xBB\xBF" "format=2\n"};
+                                         "format=02\n", "format=\n", "format=2", "format 2\n", "\n", "\nformat=2\n", ("\xEF\xBB\xBF" "format=2\n")};
     for (unsigned i = 0; i < sizeof others / sizeof *others; i++) {
         compose(others[i], "count=0001\n", 1);
         reads(REPLAY_BAD_TEXT, 1, 0, others[i]);
@@ -416,25 +416,26 @@ static void reports(uint32_t answer, const char *wanted)
     expect(is_painted(room + length, sizeof room - length), "the bytes past it stay", answer);
 }
 
+static const char refused_11[] = "answer=11\nsteps=00000\nplace=00000\ncursor=0000\n";
+
+/* The longest list that the program holds is replayed; LFs after it, up to the longest text, are a line too many, and one more is 11. */
+static void reports_most(const char *first, const char *count, const char *line_too_many)
+{
+    compose(first, count, FEW);
+    reports(REPLAY_DONE, "answer=0\nsteps=01024\nplace=00000\ncursor=0005\n");
+    memset(text + size, '\n', sizeof text - size);
+    size = FEW_BYTES;
+    reports(REPLAY_BAD_TEXT, line_too_many);
+    size = FEW_BYTES + 1;
+    reports(REPLAY_TOO_LONG, refused_11);
+}
+
 /* The program holds 1,024 instructions and 65,536 bytes of either format: 11 is the first refusal for a text, and the last for a list. */
 static void held(void)
 {
-    static const char two[] = "format=2\n", refused_11[] = "answer=11\nsteps=00000\nplace=00000\ncursor=0000\n";
-    compose(two, "count=01024\n", FEW);
-    reports(REPLAY_DONE, "answer=0\nsteps=01024\nplace=00000\ncursor=0005\n");
-    memset(text + size, '\n', sizeof text - size);
-    size = FEW_BYTES;
-    reports(REPLAY_BAD_TEXT, "answer=10\nsteps=00000\nplace=01035\ncursor=0000\n");
-    size = FEW_BYTES + 1;
-    reports(REPLAY_TOO_LONG, refused_11);
-    compose("", "count=1024\n", FEW);
-    reports(REPLAY_DONE, "answer=0\nsteps=01024\nplace=00000\ncursor=0005\n");
-    memset(text + size, '\n', sizeof text - size);
-    size = FEW_BYTES;
-    reports(REPLAY_BAD_TEXT, "answer=10\nsteps=00000\nplace=01034\ncursor=0000\n");
-    size = FEW_BYTES + 1;
-    reports(REPLAY_TOO_LONG, refused_11);
-
+    static const char two[] = "format=2\n";
+    reports_most(two, "count=01024\n", "answer=10\nsteps=00000\nplace=01035\ncursor=0000\n");
+    reports_most("", "count=1024\n", "answer=10\nsteps=00000\nplace=01034\ncursor=0000\n");
     compose("", "count=1025\n", FEW + 1);
     reports(REPLAY_TOO_MANY, "answer=5\nsteps=00000\nplace=00000\ncursor=0005\n");
     compose(two, "count=01025\n", FEW + 1);
@@ -483,25 +484,62 @@ static void stores(void)
     refused_run(insns, REPLAY_DST, REPLAY_UNKNOWN_OP);
 }
 
-static void expect_ties(const uint32_t ties[REPLAY_COLUMNS], const char *what)
+/* The counts of the columns, which stand in the outcome from `first` on. */
+static void expect_counts(unsigned first, const uint32_t counts[REPLAY_COLUMNS], const char *what)
 {
-    for (unsigned column = 0; column < REPLAY_COLUMNS; column++)
-        expect(outcome[REPLAY_OUTCOME_TIES + column] == ties[column], what, column);
+    for (unsigned column = 0; column < REPLAY_COLUMNS; column++) expect(outcome[first + column] == counts[column], what, column);
 }
 
-static void refused_ties(const uint32_t *words, size_t image_len, size_t dst_len, size_t list_len, uint32_t answer)
+/* A run over what is in hand, its outcome written over whatever was there and no further. */
+static void counts_of(const uint32_t *words, size_t image_len, size_t dst_len, size_t list_len, uint32_t answer)
+{
+    poison();
+    expect(replay_run(settings, image, image_len, dst, dst_len, words, list_len, outcome) == answer, "a run", answer);
+    expect(untouched(REPLAY_OUTCOME), "the words past its outcome stay", answer);
+}
+
+static void run_counted(const uint32_t *words, size_t len) { counts_of(words, REPLAY_IMAGE, REPLAY_DST, len, REPLAY_DONE); }
+
+static void refused_counts(const uint32_t *words, size_t image_len, size_t dst_len, size_t list_len, uint32_t answer)
 {
     static const uint32_t none[REPLAY_COLUMNS] = {0};
-    poison();
-    expect(replay_run(settings, image, image_len, dst, dst_len, words, list_len, outcome) == answer, "refused", answer);
-    expect_ties(none, "no ties of a refused run");
+    counts_of(words, image_len, dst_len, list_len, answer);
+    expect_counts(REPLAY_OUTCOME_TIES, none, "no ties of a refused run");
+    expect_counts(REPLAY_OUTCOME_STORES, none, "no stores of a refused run");
+}
+
+/* A list that would count, refused by each number of a run; by 7 to 9 for an instruction after it. */
+static void never_counted(const uint32_t *insns, size_t len)
+{
+    static uint32_t words[REPLAY_LIST + 6];
+    uint32_t *last = words + len, cursor = settings[REPLAY_SETTING_CURSOR], misc = image[REPLAY_AT_MISC];
+    memset(words, 0, sizeof words);
+    memcpy(words, insns, len * sizeof *words);
+    refused_counts(words, REPLAY_IMAGE - 1, REPLAY_DST, len, REPLAY_BAD_IMAGE_LENGTH);
+    refused_counts(words, REPLAY_IMAGE, REPLAY_DST - 1, len, REPLAY_BAD_DST_LENGTH);
+    refused_counts(words, REPLAY_IMAGE, REPLAY_DST, len - 1, REPLAY_BAD_LIST_LENGTH);
+    refused_counts(words, REPLAY_IMAGE, REPLAY_DST, REPLAY_LIST + 6, REPLAY_TOO_MANY);
+    settings[REPLAY_SETTING_CURSOR] = 1024;
+    refused_counts(words, REPLAY_IMAGE, REPLAY_DST, len, REPLAY_BAD_SETTING);
+    settings[REPLAY_SETTING_CURSOR] = cursor;
+    image[REPLAY_AT_MISC] = 1u << 12;
+    refused_counts(words, REPLAY_IMAGE, REPLAY_DST, len, REPLAY_BAD_IMAGE);
+    image[REPLAY_AT_MISC] = misc;
+    last[REPLAY_INSN_OP] = LAST_OP + 1;
+    refused_counts(words, REPLAY_IMAGE, REPLAY_DST, len + 6, REPLAY_UNKNOWN_OP);
+    last[REPLAY_INSN_OP] = REPLAY_OP_LOAD;
+    last[REPLAY_INSN_MOD] = 3;
+    refused_counts(words, REPLAY_IMAGE, REPLAY_DST, len + 6, REPLAY_BAD_LOAD_MOD);
+    last[REPLAY_INSN_VD] = 16;
+    refused_counts(words, REPLAY_IMAGE, REPLAY_DST, len + 6, REPLAY_BAD_FIELD);
 }
 
 /* The ties of a run stand by column, over whatever was in the outcome; a refused run has none. */
 static void ties(void)
 {
     /* Register 0 is 26, twice lane 13; register 1 too, but in lanes 0 to 2 and 8; lane 31 is not enabled; bit 4 is set in lanes 5, 6 and 14. */
-    uint32_t swaps[24] = {REPLAY_OP_SWAP, 0, 0, 0, 1, 1, REPLAY_OP_SWAP, 0, 0, 1, 0, 0, REPLAY_OP_SWAP, 0, 0, 0, 15, 9, REPLAY_OP_SWAP, 0, 0, 12, 12, 2};
+    static const uint32_t swaps[24] = {REPLAY_OP_SWAP, 0, 0, 0, 1, 1,  REPLAY_OP_SWAP, 0, 0, 1, 0, 0,
+                                       REPLAY_OP_SWAP, 0, 0, 0, 15, 9, REPLAY_OP_SWAP, 0, 0, 12, 12, 2};
     static const uint32_t first[REPLAY_COLUMNS] = {2, 3, 3, 4, 4, 4, 4, 3}, none[REPLAY_COLUMNS] = {0};
     static const uint32_t all[REPLAY_COLUMNS] = {2, 3, 3, 4, 4, 5, 6, 3};   /* 12 with itself, in lanes 5, 6 and 14; 15 with 0 in none, since lane 13 doesn't act */
     start();
@@ -511,31 +549,143 @@ static void ties(void)
     }
     image[REPLAY_AT_USE_FLAGS + 31] = 1;
     image[REPLAY_AT_LANE_CONFIG + 5] = image[REPLAY_AT_LANE_CONFIG + 6] = image[REPLAY_AT_LANE_CONFIG + 14] = 1u << 4;
-    refused_ties(swaps, REPLAY_IMAGE - 1, REPLAY_DST, 24, REPLAY_BAD_IMAGE_LENGTH);
-    refused_ties(swaps, REPLAY_IMAGE, REPLAY_DST - 1, 24, REPLAY_BAD_DST_LENGTH);
-    refused_ties(swaps, REPLAY_IMAGE, REPLAY_DST, 23, REPLAY_BAD_LIST_LENGTH);
-    settings[REPLAY_SETTING_CURSOR] = 1024;
-    refused_ties(swaps, REPLAY_IMAGE, REPLAY_DST, 24, REPLAY_BAD_SETTING);
-    settings[REPLAY_SETTING_CURSOR] = 0;
-    image[REPLAY_AT_MISC] = 1u << 12;
-    refused_ties(swaps, REPLAY_IMAGE, REPLAY_DST, 24, REPLAY_BAD_IMAGE);
-    image[REPLAY_AT_MISC] = 0;
-    swaps[18 + REPLAY_INSN_VD] = 16;
-    refused_ties(swaps, REPLAY_IMAGE, REPLAY_DST, 24, REPLAY_BAD_FIELD);
-    swaps[18 + REPLAY_INSN_OP] = LAST_OP + 1;
-    refused_ties(swaps, REPLAY_IMAGE, REPLAY_DST, 24, REPLAY_UNKNOWN_OP);
-    swaps[18 + REPLAY_INSN_OP] = REPLAY_OP_SWAP;
-    swaps[18 + REPLAY_INSN_VD] = 12;
+    never_counted(swaps, 24);
+    run_counted(swaps, 6);
+    expect_counts(REPLAY_OUTCOME_TIES, first, "the ties of one");
+    run_counted(swaps, 24);
+    expect_counts(REPLAY_OUTCOME_TIES, all, "the ties of four");
+    run_counted(swaps, 0);
+    expect_counts(REPLAY_OUTCOME_TIES, none, "no ties without a list");
+}
 
-    poison();
-    expect(replay_run(settings, image, REPLAY_IMAGE, dst, REPLAY_DST, swaps, 6, outcome) == REPLAY_DONE, "one SWAP", 0);
-    expect_ties(first, "the ties of one");
-    poison();
-    expect(replay_run(settings, image, REPLAY_IMAGE, dst, REPLAY_DST, swaps, 24, outcome) == REPLAY_DONE, "four SWAPs", 0);
-    expect_ties(all, "the ties of four");
-    poison();
-    expect(replay_run(settings, image, REPLAY_IMAGE, dst, REPLAY_DST, swaps, 0, outcome) == REPLAY_DONE, "no list", 0);
-    expect_ties(none, "no ties without a list");
+/* Bits of LaneConfig. */
+enum { BLOCK = 1 << 1, INDEX = 1 << 2, CAPTURE = 1 << 3, NO_BACKDOOR = 1 << 4, REVERSE = 1 << 8 };
+
+/* One instruction from an image of zeros, with one LaneConfig in all lanes: how many stores to registers a column's four lanes make. */
+static const struct {
+    uint32_t insn[6], config, stores;
+} traffic[] = {
+    {{REPLAY_OP_LOADI, 7, 0, 0, 0, 10}, 0, 4},
+    {{REPLAY_OP_LOADI, 7, 0, 0, 7, 8}, INDEX | CAPTURE, 4},
+    {{REPLAY_OP_LOADI, 0, 0, 0, 2, 10}, 0, 4},                      /* the word that is there already */
+    {{REPLAY_OP_LOADI, 7, 0, 0, 8, 10}, 0, 0},
+    {{REPLAY_OP_LOADI, 7, 0, 0, 12, 10}, 0, 0},                     /* only CONFIG stores there */
+    {{REPLAY_OP_LOADI, 7, 0, 0, 15, 10}, 0, 0},
+    {{REPLAY_OP_LOAD, 4, 0, 0, 7, 6}, 0, 4},
+    {{REPLAY_OP_LOAD, 4, 0, 0, 8, 6}, INDEX | CAPTURE, 0},
+    {{REPLAY_OP_LOAD, 4, 0, 0, 3, 6}, INDEX, 4},
+    {{REPLAY_OP_LOAD, 4, 0, 0, 3, 6}, CAPTURE, 4},
+    {{REPLAY_OP_LOAD, 4, 0, 0, 3, 6}, INDEX | CAPTURE, 8},          /* the place, captured in register 7 */
+    {{REPLAY_OP_LOAD, 4, 0, 0, 0, 15}, INDEX | CAPTURE, 8},
+    {{REPLAY_OP_LOAD, 4, 0, 0, 4, 6}, INDEX | CAPTURE, 4},
+    {{REPLAY_OP_LOAD, 4, 0, 0, 3, 6}, INDEX | CAPTURE | BLOCK, 0},
+    {{REPLAY_OP_LUT, 0, 0, 0, 7, 0}, 0, 4},
+    {{REPLAY_OP_LUT, 0, 0, 0, 8, 0}, 0, 0},
+    {{REPLAY_OP_LUT, 0, 0, 0, 8, 8}, 0, 4},                         /* register 7 names register 0 */
+    {{REPLAY_OP_LUT, 0, 0, 0, 12, 8}, 0, 0},
+    {{REPLAY_OP_LUT, 0, 0, 0, 12, 8}, NO_BACKDOOR, 4},
+    {{REPLAY_OP_SWAP, 0, 0, 0, 1, 0}, 0, 8},
+    {{REPLAY_OP_SWAP, 0, 0, 5, 5, 0}, 0, 8},                        /* with itself: two a lane */
+    {{REPLAY_OP_SWAP, 0, 0, 8, 7, 0}, 0, 4},
+    {{REPLAY_OP_SWAP, 0, 0, 7, 11, 0}, 0, 4},
+    {{REPLAY_OP_SWAP, 0, 0, 8, 9, 0}, 0, 0},
+    {{REPLAY_OP_SWAP, 0, 0, 0, 12, 0}, 0, 0},
+    {{REPLAY_OP_SWAP, 0, 0, 0, 12, 0}, NO_BACKDOOR, 4},
+    {{REPLAY_OP_SWAP, 0, 0, 0, 1, 0}, INDEX, 16},                   /* 0 and 1, and then 4 and 5: the most of all */
+    {{REPLAY_OP_SWAP, 0, 0, 3, 3, 0}, INDEX, 16},                   /* 3 twice, and then 7 twice */
+    {{REPLAY_OP_SWAP, 0, 0, 0, 4, 0}, INDEX, 12},                   /* 0, and then 4 twice */
+    {{REPLAY_OP_SWAP, 0, 0, 6, 1, 0}, INDEX, 12},
+    {{REPLAY_OP_SWAP, 0, 0, 4, 7, 0}, INDEX, 8},
+    {{REPLAY_OP_SWAP, 0, 0, 15, 8, 0}, INDEX, 8},                   /* the index registers alone */
+    {{REPLAY_OP_SWAP, 0, 0, 0, 12, 0}, INDEX, 0},
+    {{REPLAY_OP_SWAP, 0, 0, 0, 12, 0}, INDEX | NO_BACKDOOR, 12},
+    {{REPLAY_OP_SWAP, 0, 0, 0, 1, 1}, 0, 0},                        /* equal words: swapped where vd wants the greater */
+    {{REPLAY_OP_SWAP, 0, 0, 0, 1, 1}, REVERSE, 8},
+    {{REPLAY_OP_SWAP, 0, 0, 0, 1, 2}, 0, 4},
+    {{REPLAY_OP_SWAP, 0, 0, 0, 1, 5}, INDEX, 12},
+    {{REPLAY_OP_SWAP, 0, 0, 0, 1, 5}, INDEX | REVERSE, 4},
+    {{REPLAY_OP_SWAP, 0, 0, 0, 1, 9}, 0, 8},
+    {{REPLAY_OP_SWAP, 0, 0, 0, 1, 9}, REVERSE, 0},
+    {{REPLAY_OP_SWAP, 0, 0, 0, 1, 0}, REVERSE, 8},
+    {{REPLAY_OP_CONFIG, 7, 0, 0, 0, 0}, 0, 0},
+    {{REPLAY_OP_CONFIG, 7, 0, 0, 3, 1}, 0, 0},
+    {{REPLAY_OP_CONFIG, 7, 0, 0, 4, 1}, 0, 0},
+    {{REPLAY_OP_CONFIG, 7, 0, 0, 7, 0}, 0, 0},
+    {{REPLAY_OP_CONFIG, 7, 0, 0, 8, 1}, 0, 0},
+    {{REPLAY_OP_CONFIG, 7, 0, 0, 9, 1}, 0, 0},
+    {{REPLAY_OP_CONFIG, 7, 0, 0, 10, 1}, 0, 0},
+    {{REPLAY_OP_CONFIG, 7, 0, 0, 11, 0}, 0, 4},
+    {{REPLAY_OP_CONFIG, 7, 0, 0, 12, 1}, 0, 4},
+    {{REPLAY_OP_CONFIG, 7, 0, 0, 13, 6}, 0, 4},
+    {{REPLAY_OP_CONFIG, 7, 0, 0, 14, 1}, 0, 4},
+    {{REPLAY_OP_CONFIG, 7, 0, 0, 15, 1}, 0, 0},
+    {{REPLAY_OP_IADD, 1, 0, 9, 7, 9}, 0, 4},                        /* the flag, set and inverted, is no register */
+    {{REPLAY_OP_IADD, 1, 0, 9, 8, 9}, 0, 0},
+    {{REPLAY_OP_ABS, 0, 0, 10, 6, 0}, 0, 4},
+    {{REPLAY_OP_AND, 0, 10, 10, 5, 1}, 0, 4},
+    {{REPLAY_OP_OR, 0, 0, 10, 4, 0}, 0, 4},
+    {{REPLAY_OP_XOR, 0, 0, 3, 3, 0}, 0, 4},
+    {{REPLAY_OP_NOT, 0, 0, 9, 2, 0}, 0, 4},
+    {{REPLAY_OP_NOT, 0, 0, 9, 11, 0}, 0, 0},
+    {{REPLAY_OP_LZ, 0, 0, 9, 1, 10}, 0, 4},
+    {{REPLAY_OP_EXEXP, 0, 0, 9, 0, 2}, 0, 4},
+    {{REPLAY_OP_EXMAN, 0, 0, 10, 7, 1}, 0, 4},
+    {{REPLAY_OP_NOP, 0, 0, 0, 0, 0}, INDEX | CAPTURE, 0},
+    {{REPLAY_OP_STORE, 4, 0, 0, 0, 2}, 0, 0},
+};
+
+/* The stores to registers of a run stand by column, over whatever was in the outcome; a refused run has none. */
+static void register_stores(void)
+{
+    static const uint32_t none[REPLAY_COLUMNS] = {0};
+    /* Lanes 3, 12 and 31 are not enabled; lane 13 is, by its flag. The index is enabled and captured in lanes 1 and 9; lane 2 reads no Dst. */
+    static const uint32_t insns[42] = {
+        REPLAY_OP_LOADI, 7, 0, 0, 2, 10,    REPLAY_OP_CONFIG, 0, 0, 0, 12, 1,
+        REPLAY_OP_CONFIG, 1 << 0 | 1 << 6 | 1 << 8 | 1 << 15, 0, 0, 13, 8,      /* columns 0, 3 and 4; bit 15 is no column's */
+        REPLAY_OP_LOAD, 4, 0, 0, 3, 6,      REPLAY_OP_SWAP, 0, 0, 0, 4, 0,
+        REPLAY_OP_STORE, 4, 0, 0, 3, 6,     REPLAY_OP_CONFIG, 7, 0, 0, 0, 0,
+    };
+    static const uint32_t made[7][REPLAY_COLUMNS] = {
+        {4, 4, 4, 3, 3, 4, 4, 3},       /* in the lanes enabled */
+        {4, 4, 4, 0, 4, 4, 4, 4},       /* in every lane, but of column 3, whose lane of row 0 is not enabled */
+        {4, 0, 0, 0, 4, 0, 0, 0},       /* under the mask */
+        {4, 6, 3, 3, 3, 4, 4, 3},       /* a second one in lanes 1 and 9, none in lane 2 */
+        {8, 10, 8, 6, 6, 8, 8, 6},      /* 0 and 4; in lanes 1 and 9 only 0, but then 4 twice */
+    };
+    uint32_t sums[REPLAY_COLUMNS] = {0};
+    for (unsigned i = 0; i < sizeof traffic / sizeof *traffic; i++) {
+        start();
+        for (unsigned at = 0; at < REPLAY_LANES; at++) image[REPLAY_AT_LANE_CONFIG + at] = traffic[i].config;
+        run_counted(traffic[i].insn, 6);
+        for (unsigned column = 0; column < REPLAY_COLUMNS; column++)
+            expect(outcome[REPLAY_OUTCOME_STORES + column] == traffic[i].stores, "the stores of one, by its row and column", 10 * i + column);
+    }
+
+    start();
+    image[REPLAY_AT_USE_FLAGS + 3] = image[REPLAY_AT_USE_FLAGS + 12] = image[REPLAY_AT_USE_FLAGS + 13] = image[REPLAY_AT_USE_FLAGS + 31] = 1;
+    image[REPLAY_AT_LANE_FLAGS + 13] = 1;
+    image[REPLAY_AT_LANE_CONFIG + 1] = image[REPLAY_AT_LANE_CONFIG + 9] = INDEX | CAPTURE;
+    image[REPLAY_AT_LANE_CONFIG + 2] = BLOCK;
+    never_counted(insns, 42);
+    run_counted(insns, 0);
+    expect_counts(REPLAY_OUTCOME_STORES, none, "no stores without a list");
+    for (unsigned k = 0; k < 7; k++) {      /* each run anew: flags and LaneConfig, by which they go, stay */
+        for (unsigned column = 0; column < REPLAY_COLUMNS; column++) sums[column] += made[k][column];
+        run_counted(insns, 6 * (k + 1));
+        expect_counts(REPLAY_OUTCOME_STORES, sums, "the stores of so many");
+    }
+
+    /* the longest list, of the most stores; in column 6 half as many */
+    start();
+    for (unsigned at = 0; at < REPLAY_LANES; at++) image[REPLAY_AT_LANE_CONFIG + at] = at % REPLAY_COLUMNS == 6 ? 0 : INDEX;
+    memset(list, 0, sizeof list);
+    for (unsigned k = 0; k < LONGEST; k++) {
+        list[6 * k + REPLAY_INSN_OP] = REPLAY_OP_SWAP;
+        list[6 * k + REPLAY_INSN_VD] = 1;
+    }
+    run_counted(list, REPLAY_LIST);
+    for (unsigned column = 0; column < REPLAY_COLUMNS; column++) sums[column] = column == 6 ? 131072 : 262144;
+    expect_counts(REPLAY_OUTCOME_STORES, sums, "the most stores");
 }
 
 /* A list in which each instruction changes something, with STOREs of every mod: to even and odd cells, some of them twice, before and after
@@ -601,6 +751,65 @@ static void stands(const uint32_t *words, unsigned k)
     expect(same_image(&run), "the image is the run's", k);
     expect(same_dst(&run), "Dst is the run's", k);
     expect(walk[REPLAY_WALK_AT] == k && walk[REPLAY_WALK_CURSOR] == outcome[REPLAY_OUTCOME_CURSOR], "the walk is there, with the run's cursor", k);
+}
+
+/* Ties and stores, which stand side by side in the outcome. */
+enum { COUNTS = 2 * REPLAY_COLUMNS };
+
+/* Runs the list from the origin, but with all bits of one column's words and cells turned, and its lanes enabled as they are then, or none. */
+static void run_beside(unsigned column, int enabled, size_t len)
+{
+    static const uint32_t turned[REPLAY_IMAGE / REPLAY_LANES] = {~0u, ~0u, ~0u, ~0u, ~0u, ~0u, ~0u, ~0u, ~0u, ~0u, ~0u, ~0u, (1u << 18) - 1,
+                                                                 1, 1, ~0u, ~0u, ~0u, ~0u, ~0u, ~0u, ~0u, ~0u, (1u << 12) - 1};
+    memcpy(image, origin.image, sizeof image);
+    memcpy(dst, origin.dst, sizeof dst);
+    for (unsigned i = column; i < REPLAY_IMAGE; i += REPLAY_COLUMNS) image[i] ^= turned[i / REPLAY_LANES];
+    for (unsigned i = column; i < REPLAY_DST / 2; i += REPLAY_COLUMNS) {
+        dst[2 * i] ^= 0xFFFF;
+        dst[2 * i + 1] ^= 0xFFFF;
+    }
+    for (unsigned at = column; at < REPLAY_LANES && !enabled; at += REPLAY_COLUMNS) {
+        image[REPLAY_AT_USE_FLAGS + at] = 1;
+        image[REPLAY_AT_LANE_FLAGS + at] = 0;
+    }
+    run_counted(list, len);
+}
+
+/* A column's ties and stores are its own, whatever another column holds; those of a list are the sums of its instructions'. */
+static void columns(void)
+{
+    const unsigned count = 512;
+    uint32_t all[COUNTS], sums[COUNTS] = {0};
+    medley(count);
+    set_out(list, 6 * count);
+    for (unsigned at = 0; at < REPLAY_LANES; at++) {
+        image[REPLAY_AT_LANE_CONFIG + at] = 0x9E3779B9u * (at + 1) >> 14;
+        image[REPLAY_AT_USE_FLAGS + at] = at % 3 == 0;
+    }
+    keep(&origin);
+    run_counted(list, 6 * count);
+    memcpy(all, outcome + REPLAY_OUTCOME_TIES, sizeof all);
+    for (unsigned i = 0; i < COUNTS; i++) expect(all[i] > 0 && all[i] <= (i < REPLAY_COLUMNS ? 4 : 16) * count, "some, and not too many", i);
+    for (unsigned column = 0; column < REPLAY_COLUMNS; column++)
+        for (int enabled = 0; enabled < 2; enabled++) {
+            run_beside(column, enabled, 6 * count);
+            for (unsigned i = 0; i < COUNTS; i++) {
+                uint32_t counted = outcome[REPLAY_OUTCOME_TIES + i];
+                if (i % REPLAY_COLUMNS != column) expect(counted == all[i], "the counts of the other columns stay", 100 * column + i);
+                else if (!enabled) expect(counted == 0, "none where no lane is enabled", i);
+            }
+        }
+    memcpy(image, origin.image, sizeof image);
+    memcpy(dst, origin.dst, sizeof dst);
+    for (unsigned k = 0; k < count; k++) {
+        run_counted(list + 6 * k, 6);
+        settings[REPLAY_SETTING_CURSOR] = outcome[REPLAY_OUTCOME_CURSOR];
+        for (unsigned i = 0; i < COUNTS; i++) {
+            sums[i] += outcome[REPLAY_OUTCOME_TIES + i];
+            expect(outcome[REPLAY_OUTCOME_TIES + i] <= (i < REPLAY_COLUMNS ? 4u : 16u), "the most of one", 100 * k + i);
+        }
+    }
+    expect(memcmp(sums, all, sizeof all) == 0, "the sums of the list's instructions", 0);
 }
 
 static void refused_begin(const uint32_t *words, size_t image_len, size_t dst_len, size_t list_len, uint32_t answer)
@@ -725,7 +934,7 @@ static void kept(void)
     expect(forward(tour, TOUR, REPLAY_ENTRY) == REPLAY_BAD_SETTING, "is seen by the step after it", 3);
     walk[REPLAY_WALK_CURSOR] = 21;
     forward(tour, TOUR, REPLAY_ENTRY);
-    entries[REPLAY_ENTRY_IMAGE + REPLAY_AT_MISC] = 1u << 12;
+    entries[REPLAY_ENTRY_IMAGE + (unsigned)REPLAY_AT_MISC] = 1u << 12;
     expect(back(tour, TOUR, REPLAY_ENTRY) == REPLAY_DONE && image[REPLAY_AT_MISC] == 1u << 12, "no image", image[REPLAY_AT_MISC]);
     expect(forward(tour, TOUR, REPLAY_ENTRY) == REPLAY_BAD_IMAGE, "is seen by the step after it", 6);
 }
@@ -1144,7 +1353,8 @@ int main(int argc, char **argv)
         {"version", version}, {"ops", ops}, {"answers", answers}, {"words", words}, {"sizes", sizes}, {"limits", limits},
         {"formats", formats}, {"first-lines", first_lines}, {"lengths", lengths}, {"rewritten", rewritten}, {"held", held},
         {"threads", threads}, {"stacks", stacks},
-        {"stores", stores}, {"ties", ties}, {"begins", begins}, {"walks", walks}, {"kept", kept}, {"refused-steps", refused_steps},
+        {"stores", stores}, {"ties", ties}, {"register-stores", register_stores}, {"columns", columns},
+        {"begins", begins}, {"walks", walks}, {"kept", kept}, {"refused-steps", refused_steps},
         {"whole", whole}, {"lane", lane}, {"parts", parts}, {"nulls", nulls}, {"null-walks", null_walks}, {"names", names},
     };
     if (argc == 4 && strcmp(argv[1], "report") == 0) {

@@ -24,6 +24,8 @@ def refuses(error, call, *arguments):
     return False
 
 
+none = (0,) * replay.COLUMNS
+
 # The module's constants and names are the header's.
 header = content(os.path.join(root, "include/replay.h")).decode()
 for name, number in re.findall(r"#define REPLAY_(\w+) (\d+)", header):
@@ -53,19 +55,29 @@ for listing in glob.glob(os.path.join(root, "examples/*.lst")):
 
 # Dst is written where STORE says, and by nothing where the list is refused.
 state, cells, store = replay.image(), replay.dst(), [replay.OPS.index("STORE"), 4, 0, 0, 10, 2]
-assert replay.run(replay.Settings(), state, cells, store + [len(replay.OPS), 0, 0, 0, 0, 0]) == replay.Outcome(7, 0, 1, 0, ties=(0,) * 8)
+assert replay.run(replay.Settings(), state, cells, store + [len(replay.OPS), 0, 0, 0, 0, 0]) == replay.Outcome(7, 0, 1, 0, 0, none, none)
 assert not any(cells)
 assert replay.run(replay.Settings(), state, cells, store).done and not any(state)
 assert [at for at, cell in enumerate(cells) if cell] == [16 * row + column for row in range(4, 8) for column in range(0, 16, 2)]
 assert set(cells) == {0, 0x007F}
 
 # Ties are a run's, by column: register 0 with itself in all lanes, and with 15 in lane 0 alone; none where the list is refused, or in reading and writing.
+# So are stores to registers: none by the first SWAP, one a lane by the second, and two by the third.
 swap = replay.OPS.index("SWAP")
 swaps = [swap, 0, 0, 0, 0, 1] + [swap, 0, 0, 15, 0, 9] + [swap, 0, 0, 0, 0, 0]
-assert replay.run(replay.Settings(), replay.image(), replay.dst(), swaps) == replay.Outcome(0, 3, 0, 0, ties=(5,) + (4,) * 7)
-assert replay.run(replay.Settings(), replay.image(), replay.dst(), swaps + [swap, 1, 0, 0, 0, 0]) == replay.Outcome(8, 0, 3, 0, ties=(0,) * 8)
-assert replay.run(replay.Settings(), replay.image(), replay.dst(), []).ties == (0,) * 8
-assert replay.write(replay.Settings(), swaps)[1].ties == replay.read(b"")[2].ties == ()
+assert replay.run(replay.Settings(), replay.image(), replay.dst(), swaps) == replay.Outcome(0, 3, 0, 0, 0, (5,) + (4,) * 7, (12,) * 8)
+assert replay.run(replay.Settings(), replay.image(), replay.dst(), swaps + [swap, 1, 0, 0, 0, 0]) == replay.Outcome(8, 0, 3, 0, 0, none, none)
+assert replay.run(replay.Settings(), replay.image(), replay.dst(), []) == replay.Outcome(0, 0, 0, 0, 0, none, none)
+for outcome in (replay.write(replay.Settings(), swaps)[1], replay.read(b"")[2], replay.begin(replay.Settings(), replay.image(), replay.dst(), swaps)[1]):
+    assert outcome.ties == outcome.stores == ()
+
+# Stores differ by column, and one column's don't change another's: lane 9 is not enabled, and lane 2 has bits 2 and 3 set.
+state, load, config = replay.image(), replay.OPS.index("LOAD"), replay.OPS.index("CONFIG")
+traffic = [load, 0, 0, 0, 1, 6] + [swap, 0, 0, 0, 4, 0] + [config, 1 << 6, 0, 0, 12, 8] + [config, 0, 0, 0, 2, 0]
+state[448 + 9], state[384 + 2] = 1, 12
+assert replay.run(replay.Settings(), state, replay.dst(), traffic).stores == (12, 9, 14, 16, 12, 12, 12, 12)
+state[384 + 2] = 0
+assert replay.run(replay.Settings(), state, replay.dst(), traffic).stores == (12, 9, 12, 16, 12, 12, 12, 12)
 
 # A walk goes to the end and back, 12 at either, and stands where a run of so many instructions ends; what is stored to Dst is taken back too.
 settings, words, outcome = replay.read(content(os.path.join(root, "examples/store-and-load.lst")))
@@ -106,7 +118,7 @@ text, outcome = replay.write(replay.Settings(cursor=5), longest)
 assert outcome == replay.Outcome(0, 0, 0, 5, replay.TEXT) and len(text) == replay.TEXT
 assert replay.read(text) == (replay.Settings(cursor=5), array("I", longest), replay.Outcome(0, 0, 0, 5, replay.LIST))
 outcome = replay.run(replay.Settings(), replay.image(), replay.dst(), longest)
-assert outcome == replay.Outcome(0, replay.LIST // 6, 0, 0, ties=(0,) * 8)
+assert outcome == replay.Outcome(0, replay.LIST // 6, 0, 0, 0, none, (65536,) + (0,) * 7)
 longest += longest[:6]
 assert replay.write(replay.Settings(cursor=5), longest) == (b"", replay.Outcome(5, 0, 0, 5))
 assert replay.run(replay.Settings(), replay.image(), replay.dst(), longest).answer == 5

@@ -36,9 +36,9 @@ static void print(FILE *out, uint32_t kind, const uint32_t *numbers, int count, 
 
 static void answer_run(struct run_case *r, FILE *out)
 {
-    uint32_t o[12];
+    uint32_t o[RUN_OUTCOME];
     ind_run(r->settings, r->image, r->image_len, r->dst, r->dst_len, r->list, r->list_len, o);
-    print(out, RUN_CASE, o, 12, cell_checksum(checksum(NOTHING, r->image, r->image_len), r->dst, r->dst_len));
+    print(out, RUN_CASE, o, RUN_OUTCOME, cell_checksum(checksum(NOTHING, r->image, r->image_len), r->dst, r->dst_len));
 }
 
 static void answer_lane(struct lane_case *l, FILE *out)
@@ -145,7 +145,7 @@ static void show_lent(const struct run_case *r, FILE *out)
 static void show_run(const struct run_case *c, FILE *out)
 {
     static struct run_case r;
-    uint32_t o[12];
+    uint32_t o[RUN_OUTCOME];
     show_lent(c, out);
     r = *c;
     if (ind_run(r.settings, r.image, r.image_len, r.dst, r.dst_len, r.list, r.list_len, o) == 0) show_rows(c->dst, r.dst, out);

@@ -123,6 +123,28 @@ static void make_swap(uint32_t insn[6])
     else if (t < 6) insn[F_VC] %= 8, insn[F_VD] %= 8;
 }
 
+/* What makes other numbers of stores in a lane: LOADs that may capture, SWAPs of one register or of one index register, CONFIG, and LUT by register 7. */
+static void make_storing(uint32_t insn[6])
+{
+    uint32_t t = below(8), v = below(4), mod0 = below(2);
+    if (t < 2) {
+        make_op(insn, LOAD);
+        insn[F_VD] %= 8;
+    } else if (t < 5) {
+        make_op(insn, SWAP);
+        if (v == 0) insn[F_VD] = insn[F_VC];
+        else if (v < 3) insn[F_VD] = (insn[F_VC] + 4 * below(4)) % 16;
+        else insn[F_VC] %= 4, insn[F_VD] %= 4;
+        if (mod0 == 0) insn[F_MOD] = 0;
+    } else if (t < 7) {
+        make_op(insn, CONFIG);
+        if (t == 5) insn[F_VD] = 11 + v;
+    } else {
+        make_op(insn, LUT);
+        insn[F_MOD] |= 8;
+    }
+}
+
 /* The most instructions of a list, by M-105, and of an old listing, which was every list's once. Not shared with listing.c either. */
 enum { MOST = 16384, OLD_MOST = 1024 };
 
@@ -145,6 +167,14 @@ static void make_tie_list(struct list *l, uint32_t count, uint32_t most)
     make_list(l, count, most);
     for (size_t i = 0; i < l->given; i++)
         if (i == 0 || below(4) > 0) make_swap(l->word + 6 * i);
+}
+
+/* Mostly such instructions; the others store to one register at most, and change flags under them. */
+static void make_storing_list(struct list *l, uint32_t count, uint32_t most)
+{
+    make_list(l, count, most);
+    for (size_t i = 0; i < l->given; i++)
+        if (below(4) > 0) make_storing(l->word + 6 * i);
 }
 
 static void put_list(const struct list *l)
@@ -320,6 +350,28 @@ static void make_tie_image(struct image *i)
     }
 }
 
+/* LaneConfig with bits 2 and 3, mostly both, at times with 1, 4 or 8, in all lanes or in some; lanes not enabled, of row 0 too; and what register 7 names. */
+static void make_storing_image(struct image *i)
+{
+    static const uint32_t configs[8] = { 0, 4, 8, 12, 12, 12 + 16, 12 + 256, 12 + 2 };
+    i->seed = 1 + below(16383);
+    i->changes = 0;
+    uint32_t all = below(8), some = below(8), uses = below(4), named = below(32);
+    struct lanes lanes = some_lanes();
+    change(i, SLOT_CONFIG, all_lanes, configs[all]);
+    if (some > 1) change(i, SLOT_CONFIG, lanes, configs[some]);
+    if (uses < 2) change(i, SLOT_USE, all_lanes, 0);
+    if (uses == 1) {
+        lanes = some_lanes();
+        change(i, SLOT_FLAG, lanes, 0);
+        change(i, SLOT_USE, lanes, 1);
+    }
+    if (named < 16) {
+        lanes = some_lanes();
+        change(i, 7, lanes, named);
+    }
+}
+
 static void damage_image(struct image *i)
 {
     static const uint32_t slots[4] = { SLOT_CONFIG, SLOT_FLAG, SLOT_USE, SLOT_MISC };
@@ -406,14 +458,29 @@ static void make_run(void)
     put_run(&r);
 }
 
-/* As many ties as there can be: a register with itself, in every lane and instruction. */
-static void make_all_tied(struct run *r)
+/* The longest list, of one SWAP, in every lane. */
+static void make_all_swaps(struct run *r)
 {
     r->list.given = 1, r->list.len = 6 * MOST;
     make_op(r->list.word, SWAP);
+    change(&r->image, SLOT_USE, all_lanes, 0);
+}
+
+/* As many ties as there can be: a register with itself, in every lane and instruction. */
+static void make_all_tied(struct run *r)
+{
+    make_all_swaps(r);
     r->list.word[F_VC] = r->list.word[F_VD] = below(12);
     r->list.word[F_MOD] = 1 + below(15);
-    change(&r->image, SLOT_USE, all_lanes, 0);
+}
+
+/* As many stores as there can be: to two registers and their index registers, in every lane and instruction. */
+static void make_all_stored(struct run *r)
+{
+    make_all_swaps(r);
+    r->list.word[F_VC] %= 4, r->list.word[F_VD] = (r->list.word[F_VC] + 1 + below(3)) % 4;
+    r->list.word[F_MOD] = 0;
+    change(&r->image, SLOT_CONFIG, all_lanes, 4);
 }
 
 /* The longest list, given whole and mostly refused for its last instruction. It takes many bytes, so of 4,000 cases one has it, and none that is stored. */
@@ -435,17 +502,17 @@ static void make_late_run(void)
     put_run(&r);
 }
 
-/* Runs that meet ties. Some are refused for their last instruction, so that there is something to count before it. */
-static void make_tie_run(uint32_t k)
+/* Runs that have something to count, or the most, where it is given how. Some are refused for their last instruction, so that there is something to count before it. */
+static void make_counted_run(void list(struct list *, uint32_t, uint32_t), void image(struct image *), void most(struct run *))
 {
     static struct run r;
     uint32_t count = run_count(), t;
     r.image_len = IMAGE_WORDS, r.dst_len = DST_CELLS;
     make_settings(r.settings);
-    make_tie_list(&r.list, count, 1 + below(6));
-    make_tie_image(&r.image);
+    list(&r.list, count, 1 + below(6));
+    image(&r.image);
     t = below(16);
-    if (k % 512 == 511) make_all_tied(&r);
+    if (most != NULL) most(&r);
     else if (t < 3) damage_run(&r);
     else if (t < 5 && r.list.given > 0) damage_insn(r.list.word + 6 * (r.list.given - 1), 1);
     put_run(&r);
@@ -1293,9 +1360,10 @@ void ind_cases(uint32_t seed, uint32_t runs, uint32_t lanes, uint32_t listings, 
     out = to;
     for (uint32_t k = 0; k < runs; k++) {
         start(seed, k, 4);
-        /* of 4 runs one is for ties */
+        /* of 4 runs one is for ties, and one for stores to registers */
         if (is_late(k, 3999)) make_late_run();
-        else if (k % 4 == 3) make_tie_run(k);
+        else if (k % 4 == 3) make_counted_run(make_tie_list, make_tie_image, k % 512 == 511 ? make_all_tied : NULL);
+        else if (k % 4 == 1) make_counted_run(make_storing_list, make_storing_image, k % 1024 == 509 ? make_all_stored : NULL);
         else make_run();
     }
     for (uint32_t k = 0; k < lanes; k++) {

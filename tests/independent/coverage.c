@@ -20,7 +20,9 @@ struct tally {
     unsigned long pair[10][WORDS];          /* lanes filled from the cell that was stored just before, by STORE's mod and LOAD's */
     unsigned long equal[3][WORDS];          /* lanes of a run with two equal words under SWAP, by what the lane does and mod */
     unsigned long ties[2][COLUMNS];         /* what runs count, by column: together, and the most that one counts */
-    unsigned long untold[12];               /* refused runs that count none and else would, by answer */
+    unsigned long stored[2][COLUMNS];       /* and of stores to registers */
+    unsigned long made[OPS][5];             /* lanes of a run, by op and how many stores to registers they make */
+    unsigned long untold[2][12];            /* refused runs that count none and else would, ties and stores to registers, by answer */
     unsigned long undone[OPS][WORDS];       /* steps back, by op and mod of the instruction gone back over */
     unsigned long read[2][13];              /* listings that are read, by format and answer */
     unsigned long line[2][LINES];           /* refused by 10, by format and line */
@@ -52,6 +54,26 @@ static const char *const tie_names[TIES] = {
     "lanes, vc and vd the same register", "lanes, one of the two a register that is never stored", "lanes, vd 12 to 15 and bit 4 set", "lanes with bit 2 set",
     "lanes with bit 8 set", "lanes with two words that are equal after SWAP and not before, no ties", "lanes with two words that are equal before SWAP and not after",
     "runs with a tie", "runs with other ties in one column than in another", "runs with ties in one column alone",
+};
+
+/* What the count of stores to registers meets, in lanes and then as a run. */
+enum { CAPTURED, ONE_BIT, NO_INDEX, BLOCKED, SELF, SELF_STAYS, ONE_OF_TWO, INDEX_2, INDEX_2_SELF, INDEX_3, INDEX_3_SELF, INDEX_4, INDEX_4_SELF,
+       CONSTANT, FROM_0, CONFIG_OFF, MASKED, ROW0_OFF, TEMPLATE, SEQUENCE, MISC, LANE_CONFIG, NO_PLACE, NAMED, NAMED_HIGH, VD_HIGH, FLAG_TOO, FEWER_CHANGE,
+       STORING, STORING_UNEVEN, STORING_ONE, STORING_MOST, TRAFFIC };
+static unsigned long traffic[TRAFFIC];
+static const char *const traffic_names[TRAFFIC] = {
+    "lanes, LOAD with its place captured: two", "lanes, LOAD, vd 0 to 3, one of bits 2 and 3 set: one", "lanes, LOAD, vd 4 to 7, bits 2 and 3 set: one",
+    "lanes, LOAD, vd 0 to 3, bits 2 and 3 set, blocked by bit 1: none",
+    "lanes, SWAP of a register with itself, bit 2 clear: two", "lanes, SWAP that leaves a register with itself, 0 to 7: none", "lanes, SWAP, bit 2 clear, one of the two below 8: one",
+    "lanes, SWAP, bit 2 set, two index registers alone: two", "lanes, SWAP, bit 2 set, an index register with itself alone: two",
+    "lanes, SWAP, bit 2 set, two index registers and one of vc and vd: three", "lanes, SWAP, bit 2 set, an index register with itself and one of vc and vd: three",
+    "lanes, SWAP, bit 2 set, two index registers, vc and vd: four", "lanes, SWAP, bit 2 set, an index register with itself and a register with itself: four",
+    "lanes, CONFIG of 11 to 14, a constant: one", "lanes, CONFIG of 11 to 14, register 0's word: one", "lanes not enabled, CONFIG of 11 to 14: one",
+    "lanes that CONFIG of 11 to 14 passes over by imm: none", "lanes that CONFIG of 11 to 14 passes over by row 0's flags: none",
+    "lanes, CONFIG of a template: none", "lanes, CONFIG of a sequence: none", "lanes, CONFIG of Misc: none", "lanes, CONFIG of LaneConfig: none", "lanes, CONFIG of vd 9 or 10: none",
+    "lanes, LUT to the register that 7 names: one", "lanes, LUT, 7 names a register from 8 on: none", "lanes, LUT to the register that 7 names, vd from 8 on: one",
+    "lanes with one store and another flag", "lanes with more stores than words that change",
+    "runs with a store", "runs with other stores in one column than in another", "runs with stores in one column alone", "runs with 16 stores an instruction in every column",
 };
 
 /* Why a step is refused by 12. */
@@ -240,17 +262,81 @@ static int columns_with(const uint32_t *counts)
     return n;
 }
 
-static void count_counts(const uint32_t *counts)
+/* What a run counts, into the sums of all runs, and into three counts of such runs. */
+static void count_counts(const uint32_t *counts, unsigned long sums[2][COLUMNS], unsigned long runs[3])
 {
     bool uneven = false;
     for (int c = 0; c < COLUMNS; c++) {
-        t.ties[0][c] += counts[c];
-        if (counts[c] > t.ties[1][c]) t.ties[1][c] = counts[c];
+        sums[0][c] += counts[c];
+        if (counts[c] > sums[1][c]) sums[1][c] = counts[c];
         uneven = uneven || counts[c] != counts[0];
     }
-    ties[RUNS_WITH] += columns_with(counts) > 0;
-    ties[RUNS_UNEVEN] += uneven;
-    ties[RUNS_ONE] += columns_with(counts) == 1;
+    runs[0] += columns_with(counts) > 0;
+    runs[1] += uneven;
+    runs[2] += columns_with(counts) == 1;
+}
+
+static void count_stored_load(uint32_t vd, const uint32_t *w, uint32_t made)
+{
+    const uint32_t config = w[SLOT_CONFIG], bits = config >> 2 & 3;
+    traffic[CAPTURED] += made == 2;
+    traffic[ONE_BIT] += made == 1 && vd < 4 && bits != 0;
+    traffic[NO_INDEX] += made == 1 && vd >= 4 && bits == 3;
+    traffic[BLOCKED] += made == 0 && vd < 4 && bits == 3 && enabled(w) && (config >> 1 & 1) == 1;
+}
+
+/* With bit 2 set a swap makes two stores at least. */
+static void count_stored_swap(uint32_t vc, uint32_t vd, const uint32_t *w, uint32_t made)
+{
+    const bool index = w[SLOT_CONFIG] >> 2 & 1;
+    traffic[SELF] += !index && made == 2 && vc == vd;
+    traffic[SELF_STAYS] += made == 0 && vc == vd && vd < 8 && enabled(w);
+    traffic[ONE_OF_TWO] += made == 1;
+    if (index && made > 0) traffic[INDEX_2 + 2 * (made - 2) + (vc % 4 == vd % 4)]++;
+}
+
+static void count_stored_config(const uint32_t *insn, uint32_t column, const uint32_t *w, const uint32_t *row0)
+{
+    static const uint8_t others[16] = { TEMPLATE, TEMPLATE, TEMPLATE, TEMPLATE, SEQUENCE, SEQUENCE, SEQUENCE, SEQUENCE, MISC, NO_PLACE, NO_PLACE, [15] = LANE_CONFIG };
+    const uint32_t vd = insn[F_VD], mod = insn[F_MOD];
+    const bool reg = vd >= 11 && vd < 15, masked = mod & 8 && (insn[F_IMM] >> 2 * column & 1) == 0, off = !enabled(row0);
+    if (masked || off) {
+        traffic[MASKED] += reg && masked;
+        traffic[ROW0_OFF] += reg && off;
+        return;
+    }
+    traffic[reg ? mod & 1 ? CONSTANT : FROM_0 : others[vd]]++;
+    traffic[CONFIG_OFF] += reg && !enabled(w);
+}
+
+static void count_stored_lut(const uint32_t *insn, const uint32_t *w, uint32_t made)
+{
+    if ((insn[F_MOD] & 8) == 0) return;
+    traffic[NAMED] += made == 1;
+    traffic[NAMED_HIGH] += made == 0 && insn[F_VD] < 12 && enabled(w);
+    traffic[VD_HIGH] += made == 1 && insn[F_VD] >= 8;
+}
+
+/* An instruction of a run, by the images before it and after it. */
+static void count_traffic(const uint32_t settings[8], const uint32_t *insn, const uint32_t *before, const uint32_t *after)
+{
+    for (unsigned lane = 0; lane < LANES; lane++) {
+        uint32_t w[SLOTS], later[SLOTS], row0[SLOTS], changed = 0;
+        take_lane(w, before, LANES, lane);
+        take_lane(later, after, LANES, lane);
+        take_lane(row0, before, LANES, lane % 8);
+        const uint32_t made = ind_stores(settings, lane, insn, w, row0);
+        for (unsigned s = 0; s < SLOT_CONFIG; s++) changed += w[s] != later[s];
+        t.made[insn[F_OP]][made]++;
+        traffic[FLAG_TOO] += made == 1 && w[SLOT_FLAG] != later[SLOT_FLAG];
+        traffic[FEWER_CHANGE] += changed < made;
+        switch (insn[F_OP]) {
+        case LOAD:   count_stored_load(insn[F_VD], w, made); break;
+        case SWAP:   count_stored_swap(insn[F_VC], insn[F_VD], w, made); break;
+        case CONFIG: count_stored_config(insn, lane % 8, w, row0); break;
+        case LUT:    count_stored_lut(insn, w, made); break;
+        }
+    }
 }
 
 /* What a run changes, in a copy, so that its case can be run again. */
@@ -263,18 +349,19 @@ static void copy_lent(const struct run_case *c)
     memcpy(dst, c->dst, sizeof dst);
 }
 
-/* Whether a refused run would count any, if what it is refused for were put right, or left off with all that comes after it. */
-static bool would_count(const struct run_case *c)
+/* What a refused run would count, if what it is refused for were put right, or left off with all that comes after it. */
+static void count_untold(const struct run_case *c, uint32_t answer)
 {
     static const uint32_t plain[8] = { 1, 1, 0, 0, 0, 0, 0, 0 };
-    uint32_t o[12], place;
+    uint32_t o[RUN_OUTCOME], place;
     copy_lent(c);
     for (unsigned i = 0; i < IMAGE_WORDS; i++)
         if (!ind_slot_good(i / LANES, image[i])) image[i] = 0;
     size_t count = c->list_len / 6 < MAX_INSNS ? c->list_len / 6 : MAX_INSNS;
     if (ind_list_fault(c->list, count, &place) != 0) count = place;
     ind_run(plain, image, IMAGE_WORDS, dst, DST_CELLS, c->list, 6 * count, o);
-    return columns_with(o + O_TIES) > 0;
+    t.untold[0][answer] += columns_with(o + O_TIES) > 0;
+    t.untold[1][answer] += columns_with(o + O_STORES) > 0;
 }
 
 /* The field without which an instruction would not be refused by 8. */
@@ -316,17 +403,20 @@ static void count_length(int first, uint32_t answer, size_t list_len)
 static void count_run(const struct run_case *c)
 {
     static uint32_t before[IMAGE_WORDS];
-    uint32_t settings[8], o[12], last = 0;
+    uint32_t settings[8], o[RUN_OUTCOME], last = 0, full = 0;
     copy_lent(c);
     ind_run(c->settings, image, c->image_len, dst, c->dst_len, c->list, c->list_len, o);
     count_answer(0, o[O_ANSWER], c->list + 6 * o[O_PLACE]);
     count_length(RUN_LONG, o[O_ANSWER], c->list_len);
     for (size_t i = 0; i < o[O_PLACE]; i++) stores[REFUSED_LATER] += c->list[6 * i] == STORE;
     if (o[O_ANSWER] != 0) {
-        t.untold[o[O_ANSWER]] += would_count(c);
+        count_untold(c, o[O_ANSWER]);
         return;
     }
-    count_counts(o + O_TIES);
+    count_counts(o + O_TIES, t.ties, ties + RUNS_WITH);
+    count_counts(o + O_STORES, t.stored, traffic + STORING);
+    for (int column = 0; column < COLUMNS; column++) full += o[O_STEPS] > 0 && o[O_STORES + column] == 16 * o[O_STEPS];
+    traffic[STORING_MOST] += full == COLUMNS;
     copy_lent(c);
     memcpy(settings, c->settings, sizeof settings);
     for (size_t i = 0; i < c->list_len; i += 6) {
@@ -336,6 +426,7 @@ static void count_run(const struct run_case *c)
         memcpy(before, image, sizeof before);
         ind_run(settings, image, c->image_len, dst, c->dst_len, insn, 6, o);
         count_equal(insn, before, image);
+        count_traffic(settings, insn, before, image);
         settings[S_CURSOR] = o[O_CURSOR];
         last = addr;
     }
@@ -454,7 +545,8 @@ static void count_reading(const struct reading_case *r)
     readings[TEXT_OVER] += r->text_len > 1048577;
     readings[LATE_LINE] += answer == 10 && o[O_PLACE] > 9999;
     readings[LATE_PLACE] += answer < 10 && o[O_PLACE] > 9999;
-    count_room(r, answer, ind_read(r->text, r->text_len, list, ROOM_LIST, settings, all), all[O_LENGTH]);
+    ind_read(r->text, r->text_len, list, ROOM_LIST, settings, all);
+    count_room(r, answer, all[O_ANSWER], all[O_LENGTH]);
 }
 
 static int why_twelve(const struct walk_case *w, uint32_t kind)
@@ -565,18 +657,23 @@ static void count_case(const struct any_case *c)
     }
 }
 
-/* A row for each that has a name. */
+/* A row for each that has a name. Each count has six places, or more if one of them needs more. */
 static void print_by(FILE *out, const char *what, const char *const *names, int rows, const unsigned long *counts, int width, int first, int columns)
 {
+    int places = 6;
+    for (int i = 0; i < rows * width; i++) {
+        int needed = snprintf(NULL, 0, "%lu", counts[i]);
+        if (needed > places) places = needed;
+    }
     fprintf(out, "\n%s\n        ", what);
-    for (int i = first; i < columns; i++) fprintf(out, " %6d", i);
+    for (int i = first; i < columns; i++) fprintf(out, " %*d", places, i);
     fprintf(out, "\n");
     for (int row = 0; row < rows; row++) {
         if (names[row] == NULL) continue;
         fprintf(out, "%-8s", names[row]);
         for (int i = first; i < columns; i++) {
-            if (counts[row * width + i] == 0) fprintf(out, "      .");
-            else fprintf(out, " %6lu", counts[row * width + i]);
+            if (counts[row * width + i] == 0) fprintf(out, " %*s", places, ".");
+            else fprintf(out, " %*lu", places, counts[row * width + i]);
         }
         fprintf(out, "\n");
     }
@@ -593,7 +690,7 @@ void ind_coverage(FILE *in, FILE *out)
     static struct any_case c;
     static const char *const mods[10] = { [2] = "STORE 2", [6] = "STORE 6", [7] = "STORE 7", [9] = "STORE 9" };
     static const char *const formats[2] = { "old", "format 2" };
-    static const char *const lanes[3] = { "acting", "idle", "off" }, *const counts[2] = { "all runs", "most" }, *const untold[1] = { "runs" };
+    static const char *const lanes[3] = { "acting", "idle", "off" }, *const counts[2] = { "all runs", "most" }, *const untold[2] = { "ties", "stores" };
     const char *ops[OPS + 1];
     memcpy(ops, ind_names, sizeof ind_names);
     ops[OPS] = "unknown";
@@ -621,7 +718,10 @@ void ind_coverage(FILE *in, FILE *out)
              lanes, 3, t.equal[0], WORDS, 0, 16);
     print_by(out, "ties that runs count, by column: of all runs, and the most of one", counts, 2, t.ties[0], COLUMNS, 0, COLUMNS);
     print_lines(out, "ties, by lanes and by runs", tie_names, ties, TIES);
-    print_by(out, "refused runs that count none, and would without what they are refused for, by answer", untold, 1, t.untold, 12, 1, 10);
+    print_by(out, "stores to registers that lanes of runs make: lanes, by how many", ops, OPS, t.made[0], 5, 0, 5);
+    print_by(out, "stores to registers that runs count, by column: of all runs, and the most of one", counts, 2, t.stored[0], COLUMNS, 0, COLUMNS);
+    print_lines(out, "stores to registers, by lanes and by runs", traffic_names, traffic, TRAFFIC);
+    print_by(out, "refused runs that count none, and would without what they are refused for, by answer", untold, 2, t.untold[0], 12, 1, 10);
     print_lines(out, "steps refused by 12", twelve_names, twelves, TWELVES);
     print_by(out, "steps back, by mod of the instruction that they go back over (the last column: mod 16 and more)", ops, OPS, t.undone[0], WORDS, 0, WORDS);
     print_lines(out, "walks, by cells, by steps and by walks", walk_names, walks, WALKS);

@@ -34,8 +34,8 @@ enum { S_EDITION, S_SRCB, S_OFFSET, S_CURSOR, S_STRIDE0 };
 /* A lane's 24 words; in the image, slot s of lane l is word 32 s + l. Registers 11 to 14 are slots 8 to 11. */
 enum { SLOT_R11 = 8, SLOT_CONFIG = 12, SLOT_FLAG, SLOT_USE, SLOT_TEMPLATE, SLOT_SEQUENCE = 19, SLOT_MISC = 23 };
 
-/* An outcome: four words, and then the ties of a run, column by column, or the length of reading and writing. */
-enum { O_ANSWER, O_STEPS, O_PLACE, O_CURSOR, O_TIES, O_LENGTH = O_TIES };
+/* An outcome: four words, and then the ties and the stores to registers of a run, each column by column, or the length of reading and writing. */
+enum { O_ANSWER, O_STEPS, O_PLACE, O_CURSOR, O_TIES, O_STORES = O_TIES + COLUMNS, RUN_OUTCOME = O_STORES + COLUMNS, O_LENGTH = O_TIES };
 
 /* A walk: the steps done, and its cursor. An entry of its store: the image, the cursor, the address and 32 cells. */
 enum { W_AT, W_CURSOR };
@@ -59,9 +59,11 @@ uint32_t ind_run_fault(const uint32_t settings[8], const uint32_t *image, size_t
 float ind_float_of(uint32_t bits);
 bool ind_is_nan(uint32_t bits);
 uint32_t ind_run(const uint32_t settings[8], uint32_t *image, size_t image_len, uint16_t *dst, size_t dst_len,
-                 const uint32_t *list, size_t list_len, uint32_t outcome[12]);
+                 const uint32_t *list, size_t list_len, uint32_t outcome[RUN_OUTCOME]);
 uint32_t ind_lane(const uint32_t settings[8], uint32_t lane, const uint32_t insn[6], uint32_t own[24], const uint32_t head[24],
                   uint16_t cells[2]);                               /* the even one and the odd one */
+uint32_t ind_stores(const uint32_t settings[8], uint32_t lane, const uint32_t insn[6], const uint32_t own[24],
+                    const uint32_t head[24]);                       /* to registers, in one lane, all being in order */
 
 /* walk.c: begin looks at no cell, and back writes nothing to the store */
 uint32_t ind_begin(const uint32_t settings[8], const uint32_t *image, size_t image_len, size_t dst_len,

@@ -213,7 +213,7 @@ void ind_replay(FILE *in, FILE *out)
 {
     static uint32_t image[IMAGE_WORDS];
     static uint16_t dst[DST_CELLS];
-    uint32_t settings[8], outcome[12];
+    uint32_t settings[8], outcome[RUN_OUTCOME];
 
     memset(image, 0, sizeof image);
     memset(dst, 0, sizeof dst);

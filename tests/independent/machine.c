@@ -9,6 +9,7 @@
  * (and the build turns contraction off). */
 _Static_assert(FLT_EVAL_METHOD == 0, "float arithmetic must be done in float");
 _Static_assert(sizeof(float) == 4 && FLT_MANT_DIG == 24, "float must be IEEE single precision");
+_Static_assert(RUN_OUTCOME == 20, "a run's outcome has 20 words");
 
 struct machine {
     uint32_t word[LANES][SLOTS];
@@ -18,6 +19,7 @@ struct machine {
     uint32_t dst_mask;              /* the bits of a place that tell these cells apart */
     uint32_t edition, srcb, offset, cursor, stride[4];
     uint32_t ties[COLUMNS];         /* equal pairs that SWAP has compared so far */
+    uint32_t stores[COLUMNS];       /* stores to registers so far */
 };
 
 enum { ENABLE_FP16A_INF = 1 << 0, BLOCK_SFPU_RD_FROM_DEST = 1 << 1, ENABLE_DEST_INDEX = 1 << 2, CAPTURE_DEFAULT_DEST_INDEX = 1 << 3,
@@ -35,6 +37,13 @@ static uint32_t lreg(const struct machine *m, uint32_t reg, unsigned lane)
     case 15: return 2 * lane;
     default: return m->word[lane][reg];
     }
+}
+
+/* To registers 0 to 7 and 11 to 14. Nothing else stores to a register, so that M-106's count is of the stores as they are made, one after another. */
+static void set_lreg(struct machine *m, uint32_t reg, unsigned lane, uint32_t value)
+{
+    m->word[lane][reg < 8 ? reg : SLOT_R11 + reg - 11] = value;
+    m->stores[lane & 7]++;
 }
 
 static bool enabled(const struct machine *m, unsigned lane)
@@ -114,9 +123,9 @@ static void sfpload(struct machine *m, const uint32_t *insn)
         case 14: datum = (old & 0xFFFF0000) | cell; break;
         case 15: datum = (uint32_t)cell << 16 | (old & 0xFFFF); break;
         }
-        m->word[lane][vd] = datum;
+        set_lreg(m, vd, lane, datum);
         if (vd < 4 && config_bit(m, lane, ENABLE_DEST_INDEX) && config_bit(m, lane, CAPTURE_DEFAULT_DEST_INDEX))
-            m->word[lane][vd + 4] = place;
+            set_lreg(m, vd + 4, lane, place);
     }
 }
 
@@ -175,7 +184,7 @@ static void sfplut(struct machine *m, const uint32_t *insn)
     const uint32_t vd = insn[F_VD], mod = insn[F_MOD];
     EACH_LANE(m, lane) {
         if (!(vd < 12 || config_bit(m, lane, DISABLE_BACKDOOR_LOAD)) || !enabled(m, lane)) continue;
-        uint32_t *w = m->word[lane];
+        const uint32_t *w = m->word[lane];
         uint32_t l3 = w[3], magnitude = l3 & 0x7FFFFFFF;
         float b = ind_float_of(denormal_or_zero(magnitude) ? 0 : magnitude);
         uint32_t coeffs = b < 1.0f ? w[0] : b < 2.0f ? w[1] : w[2];
@@ -187,7 +196,7 @@ static void sfplut(struct machine *m, const uint32_t *insn)
         if (ind_is_nan(d)) d = 0x7FC00000;
         if (mod & 4) d = (d & 0x7FFFFFFF) | (l3 & 0x80000000);
         uint32_t target = mod & 8 ? w[7] & 15 : vd;
-        if (target < 8) w[target] = d;
+        if (target < 8) set_lreg(m, target, lane, d);
     }
 }
 
@@ -214,7 +223,6 @@ static void sfpswap(struct machine *m, const uint32_t *insn)
     const uint32_t vc = insn[F_VC], vd = insn[F_VD], mod = insn[F_MOD];
     EACH_LANE(m, lane) {
         if (!(vd < 12 || config_bit(m, lane, DISABLE_BACKDOOR_LOAD)) || !enabled(m, lane)) continue;
-        uint32_t *w = m->word[lane];
         uint32_t vc_val = lreg(m, vc, lane), vd_val = lreg(m, vd, lane);
         bool should_swap = true;
         if (mod != 0) {
@@ -225,12 +233,12 @@ static void sfpswap(struct machine *m, const uint32_t *insn)
         }
         if (!should_swap) continue;
         uint32_t writable = config_bit(m, lane, ENABLE_DEST_INDEX) ? 4 : 8;
-        if (vc < writable) w[vc] = vd_val;
-        if (vd < writable) w[vd] = vc_val;
+        if (vc < writable) set_lreg(m, vc, lane, vd_val);
+        if (vd < writable) set_lreg(m, vd, lane, vc_val);
         if (config_bit(m, lane, ENABLE_DEST_INDEX)) {
-            uint32_t vca = 4 + (vc & 3), vda = 4 + (vd & 3), vca_val = w[vca], vda_val = w[vda];
-            w[vca] = vda_val;
-            w[vda] = vca_val;
+            uint32_t vca = 4 + (vc & 3), vda = 4 + (vd & 3), vca_val = lreg(m, vca, lane), vda_val = lreg(m, vda, lane);
+            set_lreg(m, vca, lane, vda_val);
+            set_lreg(m, vda, lane, vca_val);
         }
     }
 }
@@ -269,7 +277,7 @@ static void sfpconfig(struct machine *m, const uint32_t *insn)
             w[SLOT_CONFIG] = combine(original, value % 262144, mod);
             if (imm_is_value) w[SLOT_CONFIG] |= original & ~0xFFFFu;
         } else if (vd >= 11) {
-            w[SLOT_R11 + vd - 11] = imm_is_value ? defaults[vd - 11] : head[0];
+            set_lreg(m, vd, lane, imm_is_value ? defaults[vd - 11] : head[0]);
         }
     }
 }
@@ -281,8 +289,8 @@ static void sfploadi(struct machine *m, const uint32_t *insn)
     const uint32_t imm = insn[F_IMM], vd = insn[F_VD];
     EACH_LANE(m, lane) {
         if (!enabled(m, lane) || vd >= 8) continue;
-        uint32_t old = m->word[lane][vd];
-        m->word[lane][vd] = insn[F_MOD] == 8 ? imm << 16 | (old & 0xFFFF) : (old & 0xFFFF0000) | imm;
+        uint32_t old = lreg(m, vd, lane);
+        set_lreg(m, vd, lane, insn[F_MOD] == 8 ? imm << 16 | (old & 0xFFFF) : (old & 0xFFFF0000) | imm);
     }
 }
 
@@ -292,14 +300,13 @@ static void sfpiadd(struct machine *m, const uint32_t *insn)
     const uint32_t imm = insn[F_IMM] & 0x800 ? insn[F_IMM] | 0xFFFFF000 : insn[F_IMM];
     EACH_LANE(m, lane) {
         if (!enabled(m, lane) || vd >= 8) continue;
-        uint32_t *w = m->word[lane];
-        uint32_t c = lreg(m, vc, lane), result;
+        uint32_t c = lreg(m, vc, lane), d = lreg(m, vd, lane), *flag = &m->word[lane][SLOT_FLAG], result;
         if (mod & 1) result = c + imm;
-        else if (mod & 2) result = c - w[vd];
-        else result = c + w[vd];
-        w[vd] = result;
-        if (!(mod & 4)) w[SLOT_FLAG] = result >> 31;
-        if (mod & 8) w[SLOT_FLAG] = !w[SLOT_FLAG];
+        else if (mod & 2) result = c - d;
+        else result = c + d;
+        set_lreg(m, vd, lane, result);
+        if (!(mod & 4)) *flag = result >> 31;
+        if (mod & 8) *flag = !*flag;
     }
 }
 
@@ -310,7 +317,7 @@ static void sfpabs(struct machine *m, const uint32_t *insn)
         uint32_t c = lreg(m, insn[F_VC], lane), result;
         if (insn[F_MOD] == 0) result = c >> 31 ? 0u - c : c;
         else result = ind_is_nan(c) ? c : c & 0x7FFFFFFF;
-        m->word[lane][insn[F_VD]] = result;
+        set_lreg(m, insn[F_VD], lane, result);
     }
 }
 
@@ -318,14 +325,14 @@ static void sfpbitwise(struct machine *m, const uint32_t *insn)
 {
     EACH_LANE(m, lane) {
         if (!enabled(m, lane) || insn[F_VD] >= 8) continue;
-        uint32_t c = lreg(m, insn[F_VC], lane), *d = &m->word[lane][insn[F_VD]];
-        uint32_t other = insn[F_MOD] == 1 ? lreg(m, insn[F_VB], lane) : *d;
+        uint32_t c = lreg(m, insn[F_VC], lane), other = lreg(m, insn[F_MOD] == 1 ? insn[F_VB] : insn[F_VD], lane), result = 0;
         switch (insn[F_OP]) {
-        case AND: *d = other & c; break;
-        case OR:  *d = other | c; break;
-        case XOR: *d = other ^ c; break;
-        case NOT: *d = ~c; break;
+        case AND: result = other & c; break;
+        case OR:  result = other | c; break;
+        case XOR: result = other ^ c; break;
+        case NOT: result = ~c; break;
         }
+        set_lreg(m, insn[F_VD], lane, result);
     }
 }
 
@@ -337,7 +344,7 @@ static void sfplz(struct machine *m, const uint32_t *insn)
         uint32_t c = lreg(m, insn[F_VC], lane), *flag = &m->word[lane][SLOT_FLAG], zeros = 0;
         if (mod & 4) c &= 0x7FFFFFFF;
         while (zeros < 32 && (c << zeros & 0x80000000) == 0) zeros++;
-        m->word[lane][vd] = zeros;
+        set_lreg(m, vd, lane, zeros);
         if (mod & 2) *flag = c != 0;
         if (mod & 8) *flag = !*flag;
     }
@@ -350,7 +357,7 @@ static void sfpexexp(struct machine *m, const uint32_t *insn)
         if (!enabled(m, lane) || vd >= 8) continue;
         uint32_t exp = lreg(m, insn[F_VC], lane) >> 23 & 0xFF, *flag = &m->word[lane][SLOT_FLAG];
         uint32_t result = mod & 1 ? exp : exp - 127;
-        m->word[lane][vd] = result;
+        set_lreg(m, vd, lane, result);
         if (mod & 2) *flag = result >> 31;
         if (mod & 8) *flag = !*flag;
     }
@@ -361,7 +368,7 @@ static void sfpexman(struct machine *m, const uint32_t *insn)
     EACH_LANE(m, lane) {
         if (!enabled(m, lane) || insn[F_VD] >= 8) continue;
         uint32_t hidden = insn[F_MOD] & 1 ? 0 : 1u << 23;
-        m->word[lane][insn[F_VD]] = hidden + (lreg(m, insn[F_VC], lane) & 0x7FFFFF);
+        set_lreg(m, insn[F_VD], lane, hidden + (lreg(m, insn[F_VC], lane) & 0x7FFFFF));
     }
 }
 
@@ -398,14 +405,14 @@ static void set_up(struct machine *m, const uint32_t settings[8])
 }
 
 uint32_t ind_run(const uint32_t settings[8], uint32_t *image, size_t image_len, uint16_t *dst, size_t dst_len,
-                 const uint32_t *list, size_t list_len, uint32_t outcome[12])
+                 const uint32_t *list, size_t list_len, uint32_t outcome[RUN_OUTCOME])
 {
     uint32_t place, answer = ind_run_fault(settings, image, image_len, dst_len, list, list_len, &place);
     outcome[O_ANSWER] = answer;
     outcome[O_STEPS] = 0;
     outcome[O_PLACE] = place;
     outcome[O_CURSOR] = settings[S_CURSOR];
-    for (unsigned c = 0; c < COLUMNS; c++) outcome[O_TIES + c] = 0;
+    for (unsigned c = 0; c < COLUMNS; c++) outcome[O_TIES + c] = outcome[O_STORES + c] = 0;
     if (answer != 0) return answer;
 
     struct machine m;
@@ -421,8 +428,22 @@ uint32_t ind_run(const uint32_t settings[8], uint32_t *image, size_t image_len, 
 
     outcome[O_STEPS] = (uint32_t)(list_len / 6);
     outcome[O_CURSOR] = m.cursor;
-    for (unsigned c = 0; c < COLUMNS; c++) outcome[O_TIES + c] = m.ties[c];
+    for (unsigned c = 0; c < COLUMNS; c++) outcome[O_TIES + c] = m.ties[c], outcome[O_STORES + c] = m.stores[c];
     return 0;
+}
+
+/* Row 0's lane is as given, even where the lane is itself in row 0. */
+static void step_lane(struct machine *m, const uint32_t settings[8], uint32_t lane, const uint32_t *insn, const uint32_t *own, const uint32_t *head,
+                      uint16_t cells[2])
+{
+    set_up(m, settings);
+    m->first = lane;
+    m->end = lane + 1;
+    m->dst = cells;
+    m->dst_mask = 1;
+    m->head[lane % 8] = head;
+    memcpy(m->word[lane], own, sizeof m->word[lane]);
+    step(m, insn);
 }
 
 uint32_t ind_lane(const uint32_t settings[8], uint32_t lane, const uint32_t insn[6], uint32_t own[24], const uint32_t head[24],
@@ -437,14 +458,15 @@ uint32_t ind_lane(const uint32_t settings[8], uint32_t lane, const uint32_t insn
     if (fault == 9) return 9;
 
     struct machine m;
-    set_up(&m, settings);
-    m.first = lane;
-    m.end = lane + 1;
-    m.dst = cells;
-    m.dst_mask = 1;
-    m.head[lane % 8] = head;        /* as given, even where the lane is itself in row 0 */
-    memcpy(m.word[lane], own, sizeof m.word[lane]);
-    step(&m, insn);
+    step_lane(&m, settings, lane, insn, own, head, cells);
     memcpy(own, m.word[lane], sizeof m.word[lane]);
     return 0;
+}
+
+uint32_t ind_stores(const uint32_t settings[8], uint32_t lane, const uint32_t insn[6], const uint32_t own[24], const uint32_t head[24])
+{
+    struct machine m;
+    uint16_t cells[2] = { 0, 0 };
+    step_lane(&m, settings, lane, insn, own, head, cells);
+    return m.stores[lane % 8];
 }

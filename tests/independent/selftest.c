@@ -342,7 +342,7 @@ static void stores(void)
 
 /* Runs */
 
-static uint32_t image[ROOM_IMAGE], list[ROOM_LIST], outcome[12];
+static uint32_t image[ROOM_IMAGE], list[ROOM_LIST], outcome[RUN_OUTCOME];
 static uint16_t dst[ROOM_DST];
 
 static bool is(uint32_t answer, uint32_t steps, uint32_t place, uint32_t cursor)
@@ -476,23 +476,36 @@ static uint32_t run(size_t count)
     return ind_run(settings, image, 768, dst, 16384, list, 6 * count, outcome);
 }
 
+/* The counts of columns 0 to 7, which begin at that word: the ties, or the stores to registers. */
+static bool counts_are(unsigned first, const uint32_t counts[8]) { return memcmp(outcome + first, counts, 8 * sizeof *counts) == 0; }
+
 static bool are(uint32_t c0, uint32_t c1, uint32_t c2, uint32_t c3, uint32_t c4, uint32_t c5, uint32_t c6, uint32_t c7)
 {
-    const uint32_t counts[8] = { c0, c1, c2, c3, c4, c5, c6, c7 };
-    return memcmp(outcome + O_TIES, counts, sizeof counts) == 0;
+    return counts_are(O_TIES, (const uint32_t[8]){ c0, c1, c2, c3, c4, c5, c6, c7 });
+}
+
+static bool stores_are(uint32_t c0, uint32_t c1, uint32_t c2, uint32_t c3, uint32_t c4, uint32_t c5, uint32_t c6, uint32_t c7)
+{
+    return counts_are(O_STORES, (const uint32_t[8]){ c0, c1, c2, c3, c4, c5, c6, c7 });
 }
 
 static bool all_are(uint32_t n) { return are(n, n, n, n, n, n, n, n); }
+static bool all_store(uint32_t n) { return stores_are(n, n, n, n, n, n, n, n); }
 
-/* One SWAP, from the image as it stands, which is put back. */
-static bool swap_counts(uint32_t vc, uint32_t vd, uint32_t mod, uint32_t each)
+/* The first instruction by itself, from the image as it stands, which is put back. */
+static bool runs_alone(void)
 {
     static uint32_t kept[ROOM_IMAGE];
     memcpy(kept, image, sizeof image);
-    put_swap(0, vc, vd, mod);
-    bool good = run(1) == 0 && is(0, 1, 0, 0) && all_are(each);
+    bool good = run(1) == 0 && is(0, 1, 0, 0);
     memcpy(image, kept, sizeof image);
     return good;
+}
+
+static bool swap_counts(uint32_t vc, uint32_t vd, uint32_t mod, uint32_t each)
+{
+    put_swap(0, vc, vd, mod);
+    return runs_alone() && all_are(each);
 }
 
 enum { BELOW, EQUAL, ABOVE };
@@ -644,14 +657,14 @@ static void ties_over_a_list(void)
     CHECK(run(MAX_INSNS) == 0 && is(0, 16384, 0, 0) && all_are(65536));
 }
 
-static bool refused(uint32_t answer, uint32_t place) { return is(answer, 0, place, settings[S_CURSOR]) && all_are(0); }
+static bool refused(uint32_t answer, uint32_t place) { return is(answer, 0, place, settings[S_CURSOR]) && all_are(0) && all_store(0); }
 
-/* With ties in all lanes before what is refused, which a run must not tell of. */
-static void ties_refused(void)
+/* With ties and stores to registers in all lanes before what is refused, which a run must not tell of. */
+static void counts_refused(void)
 {
     alike(5, 0);
     settings[S_CURSOR] = 6;
-    put_swap(0, 0, 1, 1), put_swap(1, 1, 0, 9);
+    put_swap(0, 0, 1, 1), put_swap(1, 1, 0, 9);                 /* the second swaps */
     put_insn(2, 17, 0, 0, 0, 0);
     CHECK(run(3) == 7 && refused(7, 2));
     put_swap(2, 0, 16, 1);
@@ -673,7 +686,185 @@ static void ties_refused(void)
     CHECK(ind_run(settings, image, 768, dst, 16383, list, 12, outcome) == 2 && refused(2, 0));
     memset(outcome, 0xA5, sizeof outcome);
     CHECK(ind_run(settings, image, 768, dst, 16384, list, 11, outcome) == 4 && refused(4, 0));
-    CHECK(run(2) == 0 && is(0, 2, 0, 6) && all_are(8));
+    CHECK(run(2) == 0 && is(0, 2, 0, 6) && all_are(8) && all_store(8));
+}
+
+/* Stores to registers (M-106): of each column's four lanes together, so 4 is one in each lane */
+
+static bool stores_each(uint32_t op, uint32_t imm, uint32_t vd, uint32_t mod, uint32_t each)
+{
+    put_insn(0, op, imm, 0, vd, mod);
+    return runs_alone() && all_store(each);
+}
+
+static bool swap_stores(uint32_t vc, uint32_t vd, uint32_t mod, uint32_t each)
+{
+    put_swap(0, vc, vd, mod);
+    return runs_alone() && all_store(each);
+}
+
+static void stores_by_load(void)
+{
+    /* The word, and the place where it is captured: bits 2 and 3, and vd 0 to 3. */
+    for (uint32_t vd = 0; vd < 16; vd++) {
+        const uint32_t word = vd < 8 ? 4 : 0, both = vd < 4 ? 8 : word;
+        alike(5, 0), CHECK(stores_each(LOAD, 0, vd, 6, word));
+        alike(5, 1 << 2), CHECK(stores_each(LOAD, 0, vd, 6, word));
+        alike(5, 1 << 3), CHECK(stores_each(LOAD, 0, vd, 6, word));
+        alike(5, 0xC), CHECK(stores_each(LOAD, 0, vd, 6, both));
+        alike(5, 0x3FFFD), CHECK(stores_each(LOAD, 0, vd, 6, both));
+        alike(5, 0xE), CHECK(stores_each(LOAD, 0, vd, 6, 0));   /* blocked */
+    }
+
+    /* A half is stored with the half that stays; a word that was there already is stored too. */
+    alike(0, 0xC);
+    CHECK(stores_each(LOAD, 0, 1, 14, 8) && stores_each(LOAD, 0, 1, 15, 8) && stores_each(LOAD, 0, 1, 0, 8) && stores_each(LOAD, 0, 1, 11, 8));
+
+    /* By lanes: captured in lane 9, blocked in lane 10, not enabled in lane 11. */
+    alike(0, 0);
+    image[LANES * SLOT_CONFIG + 9] = 0xC, image[LANES * SLOT_CONFIG + 10] = 0xE, image[LANES * SLOT_USE + 11] = 1;
+    put_insn(0, LOAD, 0, 0, 2, 9);
+    CHECK(run(1) == 0 && stores_are(4, 5, 3, 3, 4, 4, 4, 4));
+}
+
+static void stores_by_swap(void)
+{
+    /* Bit 2 clear: to vc and to vd, each only below 8, though they be one register. From 12 on vd needs bit 4. */
+    alike(5, 0);
+    CHECK(swap_stores(0, 1, 0, 8) && swap_stores(7, 4, 0, 8) && swap_stores(0, 0, 0, 8) && swap_stores(7, 7, 0, 8));
+    CHECK(swap_stores(0, 8, 0, 4) && swap_stores(15, 7, 0, 4) && swap_stores(11, 3, 0, 4) && swap_stores(8, 8, 0, 0) && swap_stores(9, 11, 0, 0));
+    CHECK(swap_stores(0, 12, 0, 0) && swap_stores(12, 0, 0, 4));
+    alike(5, 1 << 4);
+    CHECK(swap_stores(0, 12, 0, 4) && swap_stores(14, 13, 0, 0));
+
+    /* Bit 2 set: to each only below 4, and twice for the index registers, though they be one. */
+    alike(5, 1 << 2);
+    CHECK(swap_stores(0, 1, 0, 16) && swap_stores(3, 2, 0, 16) && swap_stores(0, 0, 0, 16));
+    CHECK(swap_stores(0, 4, 0, 12) && swap_stores(5, 1, 0, 12) && swap_stores(3, 11, 0, 12) && swap_stores(15, 3, 0, 12) && swap_stores(0, 5, 0, 12));
+    CHECK(swap_stores(4, 4, 0, 8) && swap_stores(4, 7, 0, 8) && swap_stores(8, 9, 0, 8) && swap_stores(9, 9, 0, 8) && swap_stores(1, 12, 0, 0));
+    alike(5, 1 << 2 | 1 << 4);
+    CHECK(swap_stores(1, 12, 0, 12) && swap_stores(15, 15, 0, 8));
+
+    /* What does not swap stores nothing. Two equal words, one register's too, swap where the maximum is wanted, and bit 8 reverses that but for mod 0. */
+    for (uint32_t vd = 0; vd < 2; vd++) {
+        alike(5, 0);
+        CHECK(swap_stores(0, vd, 1, 0) && swap_stores(0, vd, 9, 8) && swap_stores(0, vd, 2, 4) && swap_stores(0, vd, 8, 6) && swap_stores(0, vd, 0, 8));
+        alike(5, 1 << 8);
+        CHECK(swap_stores(0, vd, 1, 8) && swap_stores(0, vd, 9, 0) && swap_stores(0, vd, 2, 4) && swap_stores(0, vd, 8, 2) && swap_stores(0, vd, 0, 8));
+        alike(5, 1 << 2);
+        CHECK(swap_stores(0, vd, 1, 0) && swap_stores(0, vd, 9, 16) && swap_stores(0, vd, 8, 12) && swap_stores(0, vd, 0, 16));
+    }
+    alike(5, 0);
+    for (unsigned l = 0; l < LANES; l++) image[l] = 4;
+    CHECK(swap_stores(0, 1, 1, 8) && swap_stores(1, 0, 1, 0) && swap_stores(0, 1, 9, 0) && swap_stores(1, 0, 9, 8));
+
+    /* By lanes: bit 2 in lane 12 alone, and lane 21 not enabled. */
+    alike(5, 0);
+    image[LANES * SLOT_CONFIG + 12] = 1 << 2, image[LANES * SLOT_USE + 21] = 1;
+    put_swap(0, 2, 6, 0);
+    CHECK(run(1) == 0 && stores_are(8, 8, 8, 8, 9, 6, 8, 8));
+}
+
+static void stores_by_config(void)
+{
+    /* To 11 to 14 and to no other place; not by what is enabled but by row 0's lane, and by imm. */
+    for (uint32_t mod = 0; mod < 8; mod++)
+        for (uint32_t vd = 0; vd < 16; vd++) {
+            alike(5, 0);
+            CHECK(stores_each(CONFIG, 0, vd, mod, vd >= 11 && vd < 15 ? 4 : 0));
+        }
+    alike(5, 0);
+    put_insn(0, CONFIG, 1 << 4 | 1 << 5 | 1 << 10, 0, 13, 8);   /* bits 4 and 10 are columns 2 and 5 */
+    CHECK(run(1) == 0 && stores_are(0, 0, 4, 0, 0, 4, 0, 0));
+    put_insn(0, CONFIG, 1, 0, 12, 9);
+    CHECK(run(1) == 0 && stores_are(4, 0, 0, 0, 0, 0, 0, 0));
+    image[LANES * SLOT_USE + 3] = image[LANES * SLOT_USE + 12] = image[LANES * SLOT_USE + 6] = image[LANES * SLOT_FLAG + 6] = 1;
+    put_insn(0, CONFIG, 0, 0, 14, 1);                           /* row 0's lane 3 is off, lane 12 is in row 1, and lane 6 is on by its flag */
+    CHECK(run(1) == 0 && stores_are(4, 4, 4, 0, 4, 4, 4, 4));
+    put_insn(0, CONFIG, 0, 0, 0, 0);
+    CHECK(run(1) == 0 && all_store(0) && image[LANES * SLOT_TEMPLATE] == 5);
+}
+
+static void stores_by_lut(void)
+{
+    /* vd below 8, or the register that the low four bits of 7 name. */
+    for (uint32_t r = 0; r < 16; r++) {
+        const uint32_t each = r < 8 ? 4 : 0;
+        alike(0, 1 << 4);
+        CHECK(stores_each(LUT, 0, r, 0, each) && stores_each(LUT, 0, r, 4, each));
+        for (unsigned l = 0; l < LANES; l++) image[LANES * 7 + l] = 0xFFFFFFF0 | r;
+        CHECK(stores_each(LUT, 0, 2, 8, each) && stores_each(LUT, 0, 15, 8, each) && stores_each(LUT, 0, 9, 12, each) && stores_each(LUT, 0, 15, 4, 0));
+        for (unsigned l = 0; l < LANES; l++) image[LANES * SLOT_CONFIG + l] = 0;
+        CHECK(stores_each(LUT, 0, 11, 8, each) && stores_each(LUT, 0, 12, 8, 0));
+    }
+    alike(0, 0);
+    for (unsigned l = 0; l < LANES; l++) image[LANES * 7 + l] = l < 20 ? l : 9;         /* none in rows 1 and 3, nor in lanes 20 to 23 */
+    put_insn(0, LUT, 0, 0, 1, 12);
+    CHECK(run(1) == 0 && stores_are(2, 2, 2, 2, 1, 1, 1, 1));
+}
+
+static void stores_by_others(void)
+{
+    /* One where vd is below 8, with a flag or without. */
+    static const struct { uint32_t op, imm, mod, flag; } one[] = {
+        { LOADI, 7, 8, 0 }, { LOADI, 7, 10, 0 }, { IADD, 4095, 1, 0 }, { IADD, 4090, 1, 1 }, { IADD, 0, 12, 1 }, { IADD, 0, 4, 0 }, { IADD, 0, 2, 0 }, { ABS, 0, 0, 0 },
+        { ABS, 0, 1, 0 }, { AND, 0, 0, 0 }, { AND, 0, 1, 0 }, { OR, 0, 0, 0 }, { OR, 0, 1, 0 }, { XOR, 0, 0, 0 }, { NOT, 0, 0, 0 }, { LZ, 0, 0, 0 }, { LZ, 0, 2, 1 },
+        { LZ, 0, 8, 1 }, { LZ, 0, 10, 0 }, { EXEXP, 0, 0, 0 }, { EXEXP, 0, 2, 1 }, { EXEXP, 0, 9, 1 }, { EXMAN, 0, 0, 0 }, { EXMAN, 0, 1, 0 },
+    };
+    for (size_t i = 0; i < sizeof one / sizeof *one; i++)
+        for (uint32_t vd = 0; vd < 16; vd++) {
+            alike(5, 0x3FFFF);
+            put_insn(0, one[i].op, one[i].imm, 0, vd, one[i].mod);
+            CHECK(run(1) == 0 && all_store(vd < 8 ? 4 : 0));
+            for (unsigned l = 0; l < LANES; l++) CHECK(image[LANES * SLOT_FLAG + l] == (vd < 8 ? one[i].flag : 0));
+        }
+    for (uint32_t vd = 0; vd < 16; vd++) CHECK(stores_each(STORE, 0, vd, 7, 0));
+    CHECK(stores_each(NOP, 0, 0, 0, 0));
+
+    /* Lanes not enabled: row 1 and, in column 2, row 3 too. Lane 20's LaneFlag enables it. */
+    alike(5, 0);
+    for (unsigned l = 8; l < 16; l++) image[LANES * SLOT_USE + l] = 1;
+    image[LANES * SLOT_USE + 26] = 1;
+    image[LANES * SLOT_USE + 20] = image[LANES * SLOT_FLAG + 20] = image[LANES * SLOT_FLAG + 21] = 1;
+    put_insn(0, NOT, 0, 0, 3, 0);
+    CHECK(run(1) == 0 && stores_are(3, 3, 2, 3, 3, 3, 3, 3));
+
+    /* A lane alone, by its column. */
+    for (unsigned l = 0; l < LANES; l++) {
+        alike(5, 0);
+        for (unsigned other = 0; other < LANES; other++) image[LANES * SLOT_USE + other] = other != l;
+        CHECK(run(1) == 0);
+        for (unsigned c = 0; c < 8; c++) CHECK(outcome[O_STORES + c] == (c == l % 8));
+    }
+}
+
+static void stores_over_a_list(void)
+{
+    /* They add up: 8, 16, 4, 0, 0 and 4. */
+    alike(5, 0xC);
+    put_insn(0, LOAD, 0, 0, 3, 9), put_swap(1, 0, 1, 0), put_insn(2, CONFIG, 0, 0, 11, 0), put_insn(3, STORE, 0, 0, 3, 9), put_insn(4, NOP, 0, 0, 0, 0);
+    put_insn(5, IADD, 0, 0, 2, 1);
+    CHECK(run(6) == 0 && is(0, 6, 0, 0) && all_store(32) && all_are(0));
+    CHECK(run(5) == 0 && all_store(28) && run(2) == 0 && all_store(24) && run(1) == 0 && all_store(8) && run(0) == 0 && all_store(0));
+
+    /* By the lane as it is then: CONFIG has column 4 capture; IADD takes away the flags that enabled all lanes, so that CONFIG passes over them too. */
+    alike(0xC, 0);
+    put_insn(0, LOAD, 0, 0, 1, 9), put_insn(1, CONFIG, 1 << 8, 0, 15, 8), put_insn(2, LOAD, 0, 0, 1, 9);
+    CHECK(run(3) == 0 && stores_are(8, 8, 8, 8, 12, 8, 8, 8));
+    alike(5, 0);
+    for (unsigned l = 0; l < LANES; l++) image[LANES * SLOT_USE + l] = image[LANES * SLOT_FLAG + l] = 1;
+    put_insn(0, LOADI, 1, 0, 4, 10), put_insn(1, IADD, 0, 0, 4, 1), put_insn(2, LOADI, 1, 0, 4, 10), put_insn(3, CONFIG, 0, 0, 11, 1);
+    CHECK(run(4) == 0 && all_store(8));
+
+    /* A tie counts whether it swaps or not, and stores only where there is a swap. */
+    alike(5, 0);
+    put_swap(0, 0, 1, 1), put_swap(1, 0, 1, 5), put_swap(2, 0, 9, 1), put_swap(3, 2, 9, 9);     /* none; 6, in all rows but 0; none, and no tie; 4 */
+    CHECK(run(4) == 0 && all_are(12) && all_store(10));
+
+    /* At most 16 an instruction: 16,384 instructions, each with four stores in every lane. */
+    alike(5, 1 << 2);
+    for (size_t i = 0; i < MAX_INSNS; i++) put_swap(i, i % 4, i / 4 % 4, 0);
+    CHECK(run(MAX_INSNS) == 0 && is(0, 16384, 0, 0) && all_store(262144));
 }
 
 /* Walks (M-103) */
@@ -1307,7 +1498,13 @@ int ind_selftest(void)
     three_answers();
     which_lanes_tie();
     ties_over_a_list();
-    ties_refused();
+    counts_refused();
+    stores_by_load();
+    stores_by_swap();
+    stores_by_config();
+    stores_by_lut();
+    stores_by_others();
+    stores_over_a_list();
     beginnings();
     entries();
     both_ends();

@@ -50,7 +50,7 @@ static void keep(uint32_t *entry, const uint32_t settings[8], const uint32_t *im
 uint32_t ind_forward(const uint32_t settings[8], uint32_t *image, size_t image_len, uint16_t *dst, size_t dst_len,
                      const uint32_t *list, size_t list_len, uint32_t *store, size_t store_len, uint32_t walk[2])
 {
-    uint32_t fault = step_fault(settings, image, image_len, dst_len, list_len, walk), here[8], outcome[12];
+    uint32_t fault = step_fault(settings, image, image_len, dst_len, list_len, walk), here[8], outcome[RUN_OUTCOME];
     const size_t at = walk[W_AT];
     if (fault != 0) return fault;
     if (at >= list_len / 6 || store_len < ENTRY * at + ENTRY) return 12;

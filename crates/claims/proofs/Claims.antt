@@ -18,6 +18,7 @@ use Rattle.lane.specs.Compute.{extended, iaddWord, inverted, flagAfter, wordAnd
 use Rattle.lane.specs.Rule.{lanewise, storesOf}
 use Rattle.lane.specs.Refusals.{pass, settingsGood, fieldsGood, instructionAnswer, laneAnswer, laneStep}
 use Rattle.lane.proofs.Cases.{pick-false}
+use Rattle.lane.proofs.Counted.{at-most-four}
 use Rattle.lane.proofs.Places.{lies, never-meet}
 use Rattle.lane.proofs.Ranks.{below-is}
 use Rattle.lane.proofs.Packed.{packed-unpacked, unpacked-packed}
@@ -65,7 +66,7 @@ refusal-touches-nothing s image dst list o x u r h =
         r .dst-is ∙ d .1 .1,
         (
           ap (λ (z : Outcome). z .answer) e,
-          (ap (λ (z : Outcome). z .place) e, (ap (λ (z : Outcome). z .steps) e, (ap (λ (z : Outcome). z .cursor) e, ap (λ (z : Outcome). z .ties) e))),
+          (ap (λ (z : Outcome). z .place) e, (ap (λ (z : Outcome). z .steps) e, (ap (λ (z : Outcome). z .cursor) e, (ap (λ (z : Outcome). z .ties) e, ap (λ (z : Outcome). z .stores) e)))),
         ),
       ),
     )
@@ -86,7 +87,7 @@ goes-through-the-list s image dst list o x u r h =
       ap (λ (z : Outcome). z .steps) e,
       (
         ap (λ (z : Outcome). z .place) e,
-        (ap (λ (z : Outcome). z .cursor) e, (r .image-is ∙ d .1 .0, (r .dst-is ∙ d .1 .1, ap (λ (z : Outcome). z .ties) e))),
+        (ap (λ (z : Outcome). z .cursor) e, (r .image-is ∙ d .1 .0, (r .dst-is ∙ d .1 .1, (ap (λ (z : Outcome). z .ties) e, ap (λ (z : Outcome). z .stores) e)))),
       ),
     )
 
@@ -123,7 +124,17 @@ decision-stays minimum c d = ap (λ (t : Bool). pick minimum t (not t)) (below-i
 
 pub at-most-four-ties : Claims.AtMostFourTies
 unfolding Claims.AtMostFourTies
-at-most-four-ties s image dst list o x u c r = rw (r .outcome-is) (Runs.few-counted s image dst list c)
+at-most-four-ties s image dst list o x u c r = rw (r .outcome-is) (Runs.few-counted s image dst list c .0)
+
+-- ---- register traffic
+
+pub at-most-four-in-a-lane : Claims.AtMostFourInALane
+unfolding Claims.AtMostFourInALane
+at-most-four-in-a-lane = at-most-four
+
+pub at-most-sixteen-stores : Claims.AtMostSixteenStores
+unfolding Claims.AtMostSixteenStores
+at-most-sixteen-stores s image dst list o x u c r = rw (r .outcome-is) (Runs.few-counted s image dst list c .1)
 
 -- ---- STORE
 

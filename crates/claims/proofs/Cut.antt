@@ -14,12 +14,12 @@ use Rattle.lane.proofs.Accepted.{settings-in-range, in-range-settings}
 use Rattle.runner.specs.declared.Found.{Found}
 use Rattle.runner.specs.declared.Outcome.{Outcome}
 use Rattle.runner.specs.Checks.{countOf, listLimit, runAnswer}
-use Rattle.runner.specs.Run.{Machine, stepped, steps, begin, finish, whenDone, Ran}
+use Rattle.runner.specs.Run.{Machine, stepped, steps, begin, finish, tiesBy, storesBy, whenDone, Ran}
 use Rattle.runner.proofs.Accepted.{Accepted, accepted, run-accepted}
 use Rattle.runner.proofs.Scan.{insn-first, insn-second}
 use Rattle.claims.specs.Claims.{withCursor, PartsOf}
 use Rattle.claims.proofs.Kept.{good-steps, length-steps, length-dst-steps}
-use Rattle.claims.proofs.Runs.{done, cut, cut-ties}
+use Rattle.claims.proofs.Runs.{done, cut, cut-counts, stores-cursor}
 
 -- ---- the cursor stays in its range
 
@@ -159,5 +159,8 @@ module _ (s : Settings) (a b image dst : List ℕ) (six : length a % 6 ≡ 0) (h
               ap (λ (x : Outcome). x .steps) (whole-is .0) ∙ added
               ∙ ap (λ (n : ℕ). n + countOf b) (sym (ap (λ (x : Outcome). x .steps) (first-is .0)))
               ∙ ap (λ (n : ℕ). p .steps + n) (sym (ap (λ (x : Outcome). x .steps) (rest-is .0)));
-          ties = λ c. rw (whole-is .0, first-is .0, rest-is .0) (cut-ties s a b image dst c six);
+          ties = λ c. rw (whole-is .0, first-is .0, rest-is .0) (cut-counts tiesBy s a b image dst c six);
+          stores =
+              λ c.
+              rw (whole-is .0, first-is .0, rest-is .0, stores-cursor (finish s image dst a .cursor) s) (cut-counts (storesBy s) s a b image dst c six);
         }

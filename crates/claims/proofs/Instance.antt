@@ -1,8 +1,9 @@
--- Two runs that isolation speaks of: a SWAP of registers 0 and 1, then a LOAD of the cell under lane 0, which is then stored four rows on, over images that
+-- Two runs that isolation speaks of: a SWAP of registers 1 and 0, then a LOAD of the cell under lane 0, which is then stored four rows on, over images that
 -- differ in lane 1 and Dsts that differ in cell 2. Assumes nothing.
 use mathlib.Core.Path.{_≡_, refl, sym, ap, _∙_}
-use Prim.Native.Nat.{ℕ, zero, suc, _+_, _<_}
+use Prim.Native.Nat.{ℕ, zero, suc, _+_, _%_, _<_, _≤_}
 use native.Mathlib.Omega.{arith}
+use native.Mathlib.Decide.{ℕ-discrete}
 use mathlib.Core.Bool.{Bool, true, false, _&&_}
 use mathlib.Core.List.{List, [], _∷_}
 use lib.ListN.{length, getD}
@@ -10,19 +11,22 @@ use lib.Dec.{eqb}
 use borrow.Author.Tests.{ne-eqb, eqb-false}
 use Rattle.lane.specs.declared.Settings.{Settings}
 use Rattle.lane.specs.declared.Insn.{Insn}
-use Rattle.lane.specs.Words.{pick, bit, flagOf, Lane, build, reg, after, upd}
+use Rattle.lane.specs.Words.{pick, bit, flagOf, Lane, Stores, build, reg, after, upd, registerStores}
 use Rattle.lane.specs.Load.{stride, nextCursor, load, loadWith, loaded, resolved}
 use Rattle.lane.specs.Store.{withCell, storedCell, store}
-use Rattle.lane.specs.Swap.{rank, ranksBelow, ranksEqual, compared, swaps, swapWith, swap, tiedWith, tied}
+use Rattle.lane.specs.Swap.{rank, ranksBelow, ranksEqual, compared, inMask, swaps, below, plainSwap, swapWith, swap, tiedWith, tied}
 use Rattle.lane.specs.Rule.{lanewise, storesOf, cellsOf, isTied}
 use Rattle.lane.specs.Refusals.{pass, settingsGood, fieldsGood, instructionAnswer}
 use Rattle.lane.proofs.Places.{even-place}
-use Rattle.lane.proofs.Stores.{length-build, getD-build}
+use Rattle.lane.proofs.Cases.{pick-false}
+use Rattle.lane.proofs.Counted.{none-count}
+use Rattle.lane.proofs.Tables.{below-all}
+use Rattle.lane.proofs.Stores.{length-build, getD-build, upd-other}
 use Rattle.runner.specs.declared.Found.{Found}
 use Rattle.runner.specs.declared.Outcome.{Outcome}
 use Rattle.runner.specs.Image.{laneIn, ofLanes}
 use Rattle.runner.specs.Checks.{insnAt, runAnswer}
-use Rattle.runner.specs.Run.{evenCell, oddCell, laneAfter, imageAt, imageAfter, cellsAfter, dstAt, dstAfter, stepped, steps, begin, finish, overColumn, tiesAfter, outcomeOf, runImage, runDst}
+use Rattle.runner.specs.Run.{evenCell, oddCell, laneAfter, imageAt, imageAfter, cellsAfter, dstAt, dstAfter, stepped, steps, begin, finish, storesAt, storesIn, tiesBy, storesBy, overColumn, countAfter, outcomeOf, runImage, runDst}
 use Rattle.runner.proofs.Lanes.{lane-of-lanes, length-lanes}
 use Rattle.runner.proofs.Dsts.{cell-of, dst-kept}
 use Rattle.runner.proofs.Accepted.{Each, run-accepted}
@@ -91,10 +95,10 @@ cells-1 h =
     eqb-false 0 7 refl
     (sym (getD-build 16384 nine 2 (omega arith)) ∙ h 2 (omega arith) refl ∙ getD-build 16384 nine-and-seven 2 (omega arith))
 
--- ---- the list: SWAP of registers 0 and 1, which are equal but for lane 1 of one image; LOAD of a cell as a number, to register 0; STORE of that to address 4
+-- ---- the list: SWAP of registers 1 and 0, which are equal but for lane 1 of one image, where they swap; LOAD of a cell as a number, to register 0; STORE of that to address 4
 
 abbrev swapping : Insn
-swapping = record { op = 4; imm = 0; vb = 0; vc = 0; vd = 1; md = 1 }
+swapping = record { op = 4; imm = 0; vb = 0; vc = 1; vd = 0; md = 1 }
 
 abbrev loading : Insn
 loading = record { op = 1; imm = 0; vb = 0; vc = 0; vd = 0; md = 6 }
@@ -103,7 +107,7 @@ abbrev storing : Insn
 storing = record { op = 16; imm = 4; vb = 0; vc = 0; vd = 0; md = 6 }
 
 abbrev three-list : List ℕ
-three-list = 4 ∷ 0 ∷ 0 ∷ 0 ∷ 1 ∷ 1 ∷ 1 ∷ 0 ∷ 0 ∷ 0 ∷ 0 ∷ 6 ∷ 16 ∷ 4 ∷ 0 ∷ 0 ∷ 0 ∷ 6 ∷ []
+three-list = 4 ∷ 0 ∷ 0 ∷ 1 ∷ 0 ∷ 1 ∷ 1 ∷ 0 ∷ 0 ∷ 0 ∷ 0 ∷ 6 ∷ 16 ∷ 4 ∷ 0 ∷ 0 ∷ 0 ∷ 6 ∷ []
 
 each-good : Each three-list
 unfolding insnAt instructionAnswer fieldsGood pass pick
@@ -169,19 +173,37 @@ finish-is = (refl, refl)
 
 -- ---- lane 0 after SWAP: as it was, since equal words wait where vd wants the minimum
 
-swaps-none : (s : Settings) (head own : Lane) (even odd : ℕ) → own 0 ≡ 0 → own 1 ≡ 0 → own 12 ≡ 0 → own 14 ≡ 0 → (t : ℕ)
-    → after (storesOf 4 s 0 swapping 0 head even odd own) own t ≡ own t
-unfolding storesOf lanewise swap swapWith swaps compared ranksBelow ranksEqual rank reg after pick
-swaps-none s head own even odd a b c u t = simp (a, b, c, u)
+all-lanes : (L : ℕ) → inMask 0xFFFFFFFF L ≡ true
+all-lanes L = below-all 32 (λ k. bit 0xFFFFFFFF k) (L % 32) refl (omega arith)
+
+swaps-none : (s : Settings) (L : ℕ) (head own : Lane) (even odd : ℕ) → own 0 ≡ 0 → own 1 ≡ 0 → own 12 ≡ 0 → own 14 ≡ 0
+    → storesOf 4 s 0 swapping L head even odd own ≡ []
+unfolding storesOf lanewise swap swapWith swaps compared ranksBelow ranksEqual rank reg pick
+swaps-none s L head own even odd a b c u = simp (a, b, c, u, all-lanes L)
+
+-- where both registers are 0
+none-swapped : (image dst : List ℕ) (L : ℕ) → laneIn image L 0 ≡ 0 → laneIn image L 1 ≡ 0 → laneIn image L 12 ≡ 0 → laneIn image L 14 ≡ 0
+    → storesAt plainly swapping 0 image dst L ≡ []
+none-swapped image dst L a b c u = swaps-none plainly L (laneIn image (L % 8)) (laneIn image L) (evenCell dst 0 L) (oddCell dst 0 L) a b c u
+
+swapped-at : (image dst : List ℕ) (L t : ℕ) → L < 32 → t < 24
+    → laneIn (imageAfter plainly swapping 0 image dst) L t ≡ after (storesAt plainly swapping 0 image dst L) (laneIn image L) t
+unfolding imageAfter imageAt laneAfter
+swapped-at image dst L t l h = lane-of-lanes (laneAfter plainly swapping 0 image dst) L t l h
+
+zeros-swapped : (dst : List ℕ) (L : ℕ) → L < 32 → storesAt plainly swapping 0 (ofLanes zeros) dst L ≡ []
+zeros-swapped dst L l =
+    none-swapped (ofLanes zeros) dst L (lane-of-lanes zeros L 0 l (omega arith)) (lane-of-lanes zeros L 1 l (omega arith))
+    (lane-of-lanes zeros L 12 l (omega arith)) (lane-of-lanes zeros L 14 l (omega arith))
+
+zeros-after : (dst : List ℕ) (L t : ℕ) → L < 32 → t < 24 → laneIn (imageAfter plainly swapping 0 (ofLanes zeros) dst) L t ≡ 0
+unfolding after
+zeros-after dst L t l h =
+    swapped-at (ofLanes zeros) dst L t l h ∙ ap (λ (st : Stores). after st (laneIn (ofLanes zeros) L) t) (zeros-swapped dst L l) ∙ lane-of-lanes zeros L t l h
 
 zero-at : (s : ℕ) → s < 24 → laneIn image-0 0 s ≡ 0
-unfolding image-0 imageAfter imageAt laneAfter
-zero-at s l =
-    lane-of-lanes (laneAfter plainly swapping 0 (ofLanes zeros) one-dst) 0 s (omega arith) l
-    ∙ swaps-none plainly (laneIn (ofLanes zeros) 0) (laneIn (ofLanes zeros) 0) (evenCell one-dst 0 0) (oddCell one-dst 0 0)
-    (lane-of-lanes zeros 0 0 (omega arith) (omega arith)) (lane-of-lanes zeros 0 1 (omega arith) (omega arith))
-    (lane-of-lanes zeros 0 12 (omega arith) (omega arith)) (lane-of-lanes zeros 0 14 (omega arith) (omega arith)) s
-    ∙ lane-of-lanes zeros 0 s (omega arith) l
+unfolding image-0
+zero-at s l = zeros-after one-dst 0 s (omega arith) l
 
 same-dst : one-dst ≡ dst-0
 unfolding one-dst dst-0 dstAfter
@@ -260,8 +282,8 @@ unfolding isTied tied tiedWith compared ranksBelow ranksEqual rank reg flagOf pi
 untied-five L own a b u = simp (a, b, u)
 
 counted-is : (image dst : List ℕ) (c : ℕ)
-    → tiesAfter plainly three-list 3 (begin plainly image dst) c ≡ overColumn (λ L. flagOf (isTied 4 swapping L (laneIn image L))) c
-unfolding tiesAfter steps insnAt isTied flagOf pick
+    → countAfter tiesBy plainly three-list 3 (begin plainly image dst) c ≡ overColumn (λ L. flagOf (isTied 4 swapping L (laneIn image L))) c
+unfolding countAfter steps insnAt isTied flagOf pick
 counted-is image dst c = whole (overColumn (λ L. flagOf (isTied 4 swapping L (laneIn image L))) c)
   where
     whole : (x : ℕ) → 0 + x + 0 + 0 ≡ x
@@ -271,7 +293,7 @@ count-of : (image dst : List ℕ) (c : ℕ) → runAnswer plainly image dst thre
     → getD (outcomeOf plainly image dst three-list .ties) c 0 ≡ overColumn (λ L. flagOf (isTied 4 swapping L (laneIn image L))) c
 count-of image dst c h l =
     ap (λ (o : Outcome). getD (o .ties) c 0) (done plainly image dst three-list h .0)
-    ∙ getD-build 8 (tiesAfter plainly three-list 3 (begin plainly image dst)) c l ∙ counted-is image dst c
+    ∙ getD-build 8 (countAfter tiesBy plainly three-list 3 (begin plainly image dst)) c l ∙ counted-is image dst c
 
 sum : (a b c d x y z w : ℕ) → a ≡ x → b ≡ y → c ≡ z → d ≡ w → a + b + c + d ≡ x + y + z + w
 sum a b c d x y z w p q r s = omega arith
@@ -301,6 +323,104 @@ five-count =
     (untied-five 1 (laneIn (ofLanes five) 1) (lane-of-lanes five 1 0 (omega arith) (omega arith)) (lane-of-lanes five 1 1 (omega arith) (omega arith))
     (lane-of-lanes five 1 14 (omega arith) (omega arith)))
     (five-tied 9 (omega arith) (λ z. omega arith)) (five-tied 17 (omega arith) (λ z. omega arith)) (five-tied 25 (omega arith) (λ z. omega arith))
+
+-- ---- the stores: one in each lane by LOAD, none by STORE, and two by SWAP in lane 1 of one image
+
+load-stores : (s : Settings) (a L : ℕ) (head own : Lane) (even odd : ℕ) → own 12 ≡ 0 → own 14 ≡ 0 → registerStores (storesOf 1 s a loading L head even odd own) ≡ 1
+unfolding storesOf lanewise load loadWith registerStores flagOf pick
+load-stores s a L head own even odd c u = simp (c, u)
+
+store-stores : (s : Settings) (a L : ℕ) (head own : Lane) (even odd : ℕ) → registerStores (storesOf 16 s a storing L head even odd own) ≡ 0
+unfolding storesOf lanewise registerStores pick
+store-stores s a L head own even odd = refl
+
+traffic-is : (image dst : List ℕ) (c : ℕ)
+    → countAfter (storesBy plainly) plainly three-list 3 (begin plainly image dst) c
+    ≡ overColumn (storesIn plainly swapping 0 image dst) c
+    + overColumn (storesIn plainly loading 0 (imageAfter plainly swapping 0 image dst) (dstAfter plainly swapping 0 image dst)) c
+unfolding countAfter steps stepped insnAt nextCursor stride pick
+traffic-is image dst c =
+    whole _ _ _ _ _ _ (store-stores plainly 4 c _ _ _ _) (store-stores plainly 4 (8 + c) _ _ _ _) (store-stores plainly 4 (16 + c) _ _ _ _)
+    (store-stores plainly 4 (24 + c) _ _ _ _)
+  where
+    whole : (x y a b d e : ℕ) → a ≡ 0 → b ≡ 0 → d ≡ 0 → e ≡ 0 → 0 + x + y + (a + b + d + e) ≡ x + y
+    whole x y a b d e p q r t = omega arith
+
+traffic-of : (image dst : List ℕ) (c : ℕ) → runAnswer plainly image dst three-list .answer ≡ 0 → c < 8
+    → getD (outcomeOf plainly image dst three-list .stores) c 0
+    ≡ overColumn (storesIn plainly swapping 0 image dst) c
+    + overColumn (storesIn plainly loading 0 (imageAfter plainly swapping 0 image dst) (dstAfter plainly swapping 0 image dst)) c
+traffic-of image dst c h l =
+    ap (λ (o : Outcome). getD (o .stores) c 0) (done plainly image dst three-list h .0)
+    ∙ getD-build 8 (countAfter (storesBy plainly) plainly three-list 3 (begin plainly image dst)) c l ∙ traffic-is image dst c
+
+zeros-none : (dst : List ℕ) (L : ℕ) → L < 32 → storesIn plainly swapping 0 (ofLanes zeros) dst L ≡ 0
+zeros-none dst L l = ap registerStores (zeros-swapped dst L l) ∙ none-count
+
+zeros-loaded : (dst d : List ℕ) (L : ℕ) → L < 32 → storesIn plainly loading 0 (imageAfter plainly swapping 0 (ofLanes zeros) dst) d L ≡ 1
+zeros-loaded dst d L l = load-stores plainly 0 L _ _ _ _ (zeros-after dst L 12 l (omega arith)) (zeros-after dst L 14 l (omega arith))
+
+both : (x y u v : ℕ) → x ≡ u → y ≡ v → x + y ≡ u + v
+both x y u v p q = omega arith
+
+zeros-traffic : (c : ℕ) → c < 8 → getD (outcomeOf plainly (ofLanes zeros) one-dst three-list .stores) c 0 ≡ 4
+zeros-traffic c l =
+    let none = zeros-none one-dst in
+    let one = zeros-loaded one-dst (dstAfter plainly swapping 0 (ofLanes zeros) one-dst) in
+    traffic-of (ofLanes zeros) one-dst c accepted-list l
+    ∙ both _ _ 0 4 (sum _ _ _ _ 0 0 0 0 (none c (omega arith)) (none (8 + c) (omega arith)) (none (16 + c) (omega arith)) (none (24 + c) (omega arith)))
+    (sum _ _ _ _ 1 1 1 1 (one c (omega arith)) (one (8 + c) (omega arith)) (one (16 + c) (omega arith)) (one (24 + c) (omega arith)))
+
+-- lane 1 of the other image swaps 5 for 0
+swaps-five : (s : Settings) (head own : Lane) (even odd : ℕ) → own 0 ≡ 5 → own 1 ≡ 0 → own 12 ≡ 0 → own 14 ≡ 0
+    → storesOf 4 s 0 swapping 1 head even odd own ≡ (1, 5) ∷ (0, 0) ∷ []
+unfolding storesOf lanewise swap swapWith swaps plainSwap below compared ranksBelow ranksEqual rank reg pick
+swaps-five s head own even odd a b c u = simp (a, b, c, u)
+
+five-swapped : (dst : List ℕ) → storesAt plainly swapping 0 (ofLanes five) dst 1 ≡ (1, 5) ∷ (0, 0) ∷ []
+unfolding pick
+five-swapped dst =
+    swaps-five plainly (laneIn (ofLanes five) 1) (laneIn (ofLanes five) 1) (evenCell dst 0 1) (oddCell dst 0 1)
+    (lane-of-lanes five 1 0 (omega arith) (omega arith)) (lane-of-lanes five 1 1 (omega arith) (omega arith))
+    (lane-of-lanes five 1 12 (omega arith) (omega arith)) (lane-of-lanes five 1 14 (omega arith) (omega arith))
+
+five-none : (dst : List ℕ) (L : ℕ) → L < 32 → (L ≡ 1 → ⊥) → storesAt plainly swapping 0 (ofLanes five) dst L ≡ []
+unfolding pick
+five-none dst L l n =
+    none-swapped (ofLanes five) dst L (lane-of-lanes five L 0 l (omega arith) ∙ ap (λ (t : Bool). pick t 5 0) (ne-eqb L 1 n))
+    (lane-of-lanes five L 1 l (omega arith)) (lane-of-lanes five L 12 l (omega arith)) (lane-of-lanes five L 14 l (omega arith))
+
+five-after : (dst : List ℕ) (L t : ℕ) → L < 32 → 12 ≤ t → t < 24 → laneIn (imageAfter plainly swapping 0 (ofLanes five) dst) L t ≡ 0
+unfolding after
+five-after dst L t l k h =
+    swapped-at (ofLanes five) dst L t l h
+    ∙ elim (ℕ-discrete L 1) [
+      | yes e ↦ rw e (ap (λ (st : Stores). after st (laneIn (ofLanes five) 1) t) (five-swapped dst)
+          ∙ upd-other (upd (laneIn (ofLanes five) 1) 1 5) 0 0 t (λ z. omega arith)
+          ∙ upd-other (laneIn (ofLanes five) 1) 1 5 t (λ z. omega arith)
+          ∙ past 1 (omega arith))
+      | no n ↦ ap (λ (st : Stores). after st (laneIn (ofLanes five) L) t) (five-none dst L l n) ∙ past L l
+    ]
+  where
+    past : (L : ℕ) → L < 32 → laneIn (ofLanes five) L t ≡ 0
+    past L l = lane-of-lanes five L t l h ∙ ap (λ (b : Bool). pick (b && eqb L 1) 5 0) (ne-eqb t 0 (λ z. omega arith)) ∙ pick-false false 5 0 refl
+
+five-loaded : (dst d : List ℕ) (L : ℕ) → L < 32 → storesIn plainly loading 0 (imageAfter plainly swapping 0 (ofLanes five) dst) d L ≡ 1
+five-loaded dst d L l =
+    load-stores plainly 0 L _ _ _ _ (five-after dst L 12 l (omega arith) (omega arith)) (five-after dst L 14 l (omega arith) (omega arith))
+
+five-still : (L : ℕ) → L < 32 → (L ≡ 1 → ⊥) → storesIn plainly swapping 0 (ofLanes five) two-dst L ≡ 0
+five-still L l n = ap registerStores (five-none two-dst L l n) ∙ none-count
+
+five-traffic : getD (outcomeOf plainly (ofLanes five) two-dst three-list .stores) 1 0 ≡ 6
+unfolding registerStores flagOf pick
+five-traffic =
+    let one = five-loaded two-dst (dstAfter plainly swapping 0 (ofLanes five) two-dst) in
+    traffic-of (ofLanes five) two-dst 1 accepted-other (omega arith)
+    ∙ both _ _ 2 4
+    (sum _ _ _ _ 2 0 0 0 (ap registerStores (five-swapped two-dst)) (five-still 9 (omega arith) (λ z. omega arith)) (five-still 17 (omega arith) (λ z. omega arith))
+    (five-still 25 (omega arith) (λ z. omega arith)))
+    (sum _ _ _ _ 1 1 1 1 (one 1 (omega arith)) (one 9 (omega arith)) (one 17 (omega arith)) (one 25 (omega arith)))
 
 pub two-runs : TwoRuns
 unfolding one-dst two-dst
@@ -333,4 +453,6 @@ two-runs =
       cells-changed = changes-cells;
       tied = zeros-count 0 (omega arith);
       counts-differ = λ h. eqb-false 4 3 refl (sym (zeros-count 1 (omega arith)) ∙ h ∙ five-count);
+      made = zeros-traffic 0 (omega arith);
+      stores-differ = λ h. eqb-false 4 6 refl (sym (zeros-traffic 1 (omega arith)) ∙ h ∙ five-traffic);
     }

@@ -1,5 +1,5 @@
 -- Demand 3. No operation is looked at: a lane's rule is handed its own words, row 0's words of its column and its two cells, so equal ones give
--- equal lanes, equal cells and equal ties. Assumes nothing.
+-- equal lanes, equal cells and equal counts. Assumes nothing.
 use mathlib.Core.Path.{_≡_, refl, sym, ap, _∙_, subst}
 use Prim.Native.Nat.{ℕ, zero, suc, _+_, _%_, _<_}
 use native.Mathlib.Omega.{arith}
@@ -10,13 +10,14 @@ use lib.Dec.{eqb}
 use Rattle.lane.specs.declared.Settings.{Settings}
 use Rattle.lane.specs.declared.Insn.{Insn}
 use Rattle.lane.specs.declared.Cells.{Cells}
-use Rattle.lane.specs.Words.{pick, bit, Lane}
+use Rattle.lane.specs.Words.{pick, bit, flagOf, Lane, registerStores}
+use Rattle.lane.specs.Rule.{isTied}
 use Rattle.lane.specs.Load.{address, placeOf, isMet, ownerOf}
-use Rattle.lane.proofs.Depends.{same-lane, same-cells}
+use Rattle.lane.proofs.Depends.{same-stores, same-lane, same-cells}
 use Rattle.lane.proofs.Places.{lies}
 use Rattle.runner.specs.Image.{laneIn}
 use Rattle.runner.specs.Checks.{insnAt, countOf, runAnswer}
-use Rattle.runner.specs.Run.{Machine, evenCell, oddCell, laneAfter, imageAt, imageAfter, cellsAfter, dstAt, dstAfter, cursorAfter, stepped, steps, begin, finish, tiesAfter, whenDone, whenRefused, outcomeOf, runImage, runDst}
+use Rattle.runner.specs.Run.{Machine, evenCell, oddCell, laneAfter, imageAt, imageAfter, cellsAfter, dstAt, dstAfter, cursorAfter, stepped, steps, begin, finish, storesIn, tiesBy, storesBy, countAfter, countsOf, whenDone, whenRefused, outcomeOf, runImage, runDst}
 use Rattle.runner.proofs.Lanes.{lane-of-lanes, equal-lanes}
 use Rattle.runner.proofs.Accepted.{run-listed}
 use Rattle.runner.proofs.Dsts.{ownCell, cell-at}
@@ -43,6 +44,12 @@ module _ (c : ℕ) (a b d e : List ℕ) (la : length a ≡ 768) (lb : length b �
   lane-isolated s i x L r l q =
       same-lane (i .op) s x i L (laneIn a (L % 8)) (laneIn b (L % 8)) (evenCell d x L) (evenCell e x L) (oddCell d x L) (oddCell e x L)
       (laneIn a L) (laneIn b L) (column-head L l q) (same-cell x L false r l q) (same-cell x L true r l q) (column-lane L l q)
+
+  stores-isolated : (s : Settings) (i : Insn) (x L : ℕ) → x < 1024 → L < 32 → L % 8 ≡ c → storesIn s i x a d L ≡ storesIn s i x b e L
+  stores-isolated s i x L r l q =
+      ap registerStores
+      (same-stores (i .op) s x i L (laneIn a (L % 8)) (laneIn b (L % 8)) (evenCell d x L) (evenCell e x L) (oddCell d x L) (oddCell e x L) (laneIn a L) (laneIn b L)
+      (column-head L l q) (same-cell x L false r l q) (same-cell x L true r l q) (column-lane L l q))
 
   cells-isolated : (i : Insn) (x L : ℕ) → x < 1024 → L < 32 → L % 8 ≡ c → cellsAfter i x a d L ≡ cellsAfter i x b e L
   unfolding cellsAfter
@@ -113,31 +120,47 @@ answers-same s list a b d e wa wb ld le = run-listed s a d list (wa .long) ld (w
 
 -- ---- the theorem
 
--- a column's own ties, instruction by instruction
-ties-isolated : (c : ℕ) (s : Settings) (list a b d e : List ℕ) → length a ≡ 768 → length b ≡ 768 → SameColumn c a b → SameCells c d e → c < 8
+-- a column's own count, instruction by instruction, of whatever machines that agree in the column agree in
+SameLane : (Insn → Machine → ℕ → ℕ) → ℕ → Type 0
+SameLane more c =
+    (i : Insn) (A B : Machine) (L : ℕ) → length (A .image) ≡ 768 → length (B .image) ≡ 768 → SameColumn c (A .image) (B .image) → SameCells c (A .dst) (B .dst)
+    → A .cursor ≡ B .cursor
+    → L < 32
+    → L % 8 ≡ c
+    → more i A L ≡ more i B L
+
+counts-isolated : (more : Insn → Machine → ℕ → ℕ) (c : ℕ) → SameLane more c
+    → (s : Settings) (list a b d e : List ℕ) → length a ≡ 768 → length b ≡ 768 → SameColumn c a b → SameCells c d e → c < 8
     → (n : ℕ)
-    → tiesAfter s list n (begin s a d) c ≡ tiesAfter s list n (begin s b e) c
-unfolding tiesAfter
-ties-isolated c s list a b d e la lb h k l zero = refl
-ties-isolated c s list a b d e la lb h k l (suc n) =
+    → countAfter more s list n (begin s a d) c ≡ countAfter more s list n (begin s b e) c
+unfolding countAfter SameLane
+counts-isolated more c same s list a b d e la lb h k l zero = refl
+counts-isolated more c same s list a b d e la lb h k l (suc n) =
     cc (
-      ties-isolated c s list a b d e la lb h k l n,
+      counts-isolated more c same s list a b d e la lb h k l n,
       lane c (omega arith) (omega arith),
       lane (8 + c) (omega arith) (omega arith),
       lane (16 + c) (omega arith) (omega arith),
       lane (24 + c) (omega arith) (omega arith),
     )
   where
-    A : Machine
-    A = steps s list n (begin s a d)
-
-    B : Machine
-    B = steps s list n (begin s b e)
-
-    lane : (L : ℕ) → L < 32 → L % 8 ≡ c → laneIn (A .image) L ≡ laneIn (B .image) L
+    lane : (L : ℕ) → L < 32 → L % 8 ≡ c
+        → more (insnAt list n) (steps s list n (begin s a d)) L ≡ more (insnAt list n) (steps s list n (begin s b e)) L
     lane L m q =
         let j = steps-isolated c s list a b d e la lb h k n in
-        column-lane c (A .image) (B .image) (A .dst) (B .dst) (length-steps s list n (begin s a d) la) (length-steps s list n (begin s b e) lb) (j .0) (j .1) L m q
+        same (insnAt list n) (steps s list n (begin s a d)) (steps s list n (begin s b e)) L (length-steps s list n (begin s a d) la)
+        (length-steps s list n (begin s b e) lb) (j .0) (j .1) (cursor-same s list a b d e n) m q
+
+same-ties : (c : ℕ) → SameLane tiesBy c
+unfolding SameLane
+same-ties c i A B L la lb h k e l q =
+    ap (λ (own : Lane). flagOf (isTied (i .op) i L own)) (column-lane c (A .image) (B .image) (A .dst) (B .dst) la lb h k L l q)
+
+same-traffic : (c : ℕ) (s : Settings) → SameLane (storesBy s) c
+unfolding SameLane
+same-traffic c s i A B L la lb h k e l q =
+    ap (λ (x : ℕ). storesIn s i (address (i .imm) (s .offset) x) (A .image) (A .dst) L) e
+    ∙ stores-isolated c (A .image) (B .image) (A .dst) (B .dst) la lb h k s i (address (i .imm) (s .offset) (B .cursor)) L (omega arith) l q
 
 -- one choice made twice keeps a relation, and so do equations
 picked : {X : Type 0} (R : X → X → Type 0) (t : Bool) (x y a b : X) → R x y → R a b → R (pick t x a) (pick t y b)
@@ -163,16 +186,20 @@ left-same c s list a b d e wa wb ld le h k =
             place = refl;
             steps = refl;
             cursor = cursor-same s list a b d e (countOf list);
-            ties =
-                counted-by (λ (x y z : ℕ). x ≡ y) (tiesAfter s list (countOf list) (begin s a d)) (tiesAfter s list (countOf list) (begin s b e)) (λ c. 0) c
-                (λ l. ties-isolated c s list a b d e (wa .long) (wb .long) h k l (countOf list)) refl;
+            ties = own-count tiesBy (same-ties c);
+            stores = own-count (storesBy s) (same-traffic c s);
           })
-          (record { answer = refl; place = refl; steps = refl; cursor = refl; ties = refl }),
+          (record { answer = refl; place = refl; steps = refl; cursor = refl; ties = refl; stores = refl }),
       (
         picked (SameColumn c) (eqb (f .answer) 0) (finish s a d list .image) (finish s b e list .image) a b (j .0) h,
         picked (SameCells c) (eqb (f .answer) 0) (finish s a d list .dst) (finish s b e list .dst) d e (j .1) k,
       ),
     )
+  where
+    own-count : (more : Insn → Machine → ℕ → ℕ) → SameLane more c → getD (countsOf more s a d list) c 0 ≡ getD (countsOf more s b e list) c 0
+    own-count more same =
+        counted-by (λ (x y z : ℕ). x ≡ y) (countAfter more s list (countOf list) (begin s a d)) (countAfter more s list (countOf list) (begin s b e)) (λ c. 0) c
+        (λ l. counts-isolated more c same s list a b d e (wa .long) (wb .long) h k l (countOf list)) refl
 
 pub isolation : Isolated
 unfolding Isolated

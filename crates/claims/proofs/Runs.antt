@@ -1,7 +1,7 @@
 -- What every run does and leaves, and the steps through a list in two parts. Assumes nothing.
 use mathlib.Core.Path.{_≡_, refl, sym, ap, _∙_}
 use Prim.Native.Nat.{ℕ, zero, suc, _+_, _*_, _/_, _%_, _<_, _≤_}
-use native.Mathlib.Nat.{add-suc, add-zero, add-assoc, lt-of-not-le}
+use native.Mathlib.Nat.{add-suc, add-zero, add-assoc, mul-comm, le-trans, le-of-eq, lt-of-not-le}
 use native.Mathlib.Decide.{decLe}
 use native.Mathlib.Omega.{arith}
 use mathlib.Core.Bool.{Bool, true, false}
@@ -19,8 +19,8 @@ use Rattle.lane.proofs.Stores.{length-build, getD-build}
 use Rattle.runner.specs.declared.Outcome.{Outcome}
 use Rattle.runner.specs.Image.{imageGood}
 use Rattle.runner.specs.Checks.{insnAt, countOf, runAnswer}
-use Rattle.runner.specs.Run.{Machine, laneAfter, imageAt, imageAfter, dstAfter, stepped, steps, begin, finish, tieIn, overColumn, tiesAfter, tiesOf, whenDone, whenRefused, outcomeOf, runImage, runDst}
-use Rattle.runner.proofs.Counts.{few-ties}
+use Rattle.runner.specs.Run.{Machine, laneAfter, imageAt, imageAfter, dstAfter, stepped, steps, begin, finish, tiesBy, storesBy, overColumn, countAfter, countsOf, whenDone, whenRefused, outcomeOf, runImage, runDst}
+use Rattle.runner.proofs.Counts.{few-ties, few-stores}
 use Rattle.runner.proofs.Scan.{insn-first, insn-second}
 use Rattle.claims.specs.Claims.{withCursor}
 use Rattle.claims.proofs.Kept.{good-steps, length-steps}
@@ -78,19 +78,26 @@ module _ (s : Settings) (image dst list : List ℕ) where
       go true e = sym (eqb-true (runAnswer s image dst list .answer) 0 e)
       go false e = refl
 
-  -- and a column's ties are few
-  pub few-counted : (c : ℕ) → getD (outcomeOf s image dst list .ties) c 0 ≤ 4 * outcomeOf s image dst list .steps
+  -- and a column's counts are few
+  pub few-counted : (c : ℕ)
+      → (getD (outcomeOf s image dst list .ties) c 0 ≤ 4 * outcomeOf s image dst list .steps)
+      × (getD (outcomeOf s image dst list .stores) c 0 ≤ 16 * outcomeOf s image dst list .steps)
   unfolding outcomeOf pick
   few-counted c = go (eqb (runAnswer s image dst list .answer) 0)
     where
-      under : (f : ℕ → ℕ) (n : ℕ) → ((c : ℕ) → f c ≤ n) → getD (build 8 f) c 0 ≤ n
-      under f n h = counted-by (λ (x y z : ℕ). x ≤ n) f f f c (λ l. h c) (omega arith)
+      under : (f : ℕ → ℕ) (k n : ℕ) → ((c : ℕ) → f c ≤ n * k) → getD (build 8 f) c 0 ≤ k * n
+      under f k n h = counted-by (λ (x y z : ℕ). x ≤ k * n) f f f c (λ l. le-trans (h c) (le-of-eq (mul-comm n k))) (omega arith)
 
       go : (t : Bool)
-          → getD (pick {X = Outcome} t (whenDone s image dst list) (whenRefused s (runAnswer s image dst list)) .ties) c 0
-          ≤ 4 * pick {X = Outcome} t (whenDone s image dst list) (whenRefused s (runAnswer s image dst list)) .steps
-      go true = under (tiesAfter s list (countOf list) (begin s image dst)) (4 * countOf list) (few-ties s list (countOf list) (begin s image dst))
-      go false = under (λ c. 0) 0 (λ c. omega arith)
+          → (getD (pick {X = Outcome} t (whenDone s image dst list) (whenRefused s (runAnswer s image dst list)) .ties) c 0
+          ≤ 4 * pick {X = Outcome} t (whenDone s image dst list) (whenRefused s (runAnswer s image dst list)) .steps)
+          × (getD (pick {X = Outcome} t (whenDone s image dst list) (whenRefused s (runAnswer s image dst list)) .stores) c 0
+          ≤ 16 * pick {X = Outcome} t (whenDone s image dst list) (whenRefused s (runAnswer s image dst list)) .steps)
+      go true = (
+        under (countAfter tiesBy s list (countOf list) (begin s image dst)) 4 (countOf list) (few-ties s list (countOf list) (begin s image dst)),
+        under (countAfter (storesBy s) s list (countOf list) (begin s image dst)) 16 (countOf list) (few-stores s list (countOf list) (begin s image dst)),
+      )
+      go false = (under (λ c. 0) 4 0 (λ c. omega arith), under (λ c. 0) 16 0 (λ c. omega arith))
 
   -- well formed afterwards
   pub stays-good : imageGood image ≡ true → imageGood (runImage s image dst list) ≡ true
@@ -138,34 +145,35 @@ steps-second s a b (suc n) m h =
     ∙ ap (λ (x : Machine). stepped s (insnAt (a ++ b) (length a / 6 + n)) x) (steps-second s a b n m h)
     ∙ ap (λ (x : Insn). stepped s x (steps s b n (steps s a (length a / 6) m))) (insn-second a b n h)
 
--- the ties add up
-ties-cursor : (k : ℕ) (s : Settings) (list : List ℕ) (n : ℕ) (m : Machine) (c : ℕ) → tiesAfter (withCursor k s) list n m c ≡ tiesAfter s list n m c
-unfolding tiesAfter
-ties-cursor k s list zero m c = refl
-ties-cursor k s list (suc n) m c =
-    ap (λ (x : ℕ). x + overColumn (tieIn (insnAt list n) (steps (withCursor k s) list n m .image)) c) (ties-cursor k s list n m c)
-    ∙ ap (λ (x : Machine). tiesAfter s list n m c + overColumn (tieIn (insnAt list n) (x .image)) c) (steps-cursor k s list n m)
+-- a count adds up, of whatever is counted
+module _ (more : Insn → Machine → ℕ → ℕ) where
+  counts-cursor : (k : ℕ) (s : Settings) (list : List ℕ) (n : ℕ) (m : Machine) (c : ℕ) → countAfter more (withCursor k s) list n m c ≡ countAfter more s list n m c
+  unfolding countAfter
+  counts-cursor k s list zero m c = refl
+  counts-cursor k s list (suc n) m c =
+      ap (λ (x : ℕ). x + overColumn (more (insnAt list n) (steps (withCursor k s) list n m)) c) (counts-cursor k s list n m c)
+      ∙ ap (λ (x : Machine). countAfter more s list n m c + overColumn (more (insnAt list n) x) c) (steps-cursor k s list n m)
 
-ties-first : (s : Settings) (a b : List ℕ) (n : ℕ) (m : Machine) (c : ℕ) → 6 * n ≤ length a → tiesAfter s (a ++ b) n m c ≡ tiesAfter s a n m c
-unfolding tiesAfter
-ties-first s a b zero m c h = refl
-ties-first s a b (suc n) m c h =
-    ap (λ (x : ℕ). x + overColumn (tieIn (insnAt (a ++ b) n) (steps s (a ++ b) n m .image)) c) (ties-first s a b n m c (omega arith))
-    ∙ ap (λ (x : Machine). tiesAfter s a n m c + overColumn (tieIn (insnAt (a ++ b) n) (x .image)) c) (steps-first s a b n m (omega arith))
-    ∙ ap (λ (x : Insn). tiesAfter s a n m c + overColumn (tieIn x (steps s a n m .image)) c) (insn-first a b n (omega arith))
+  counts-first : (s : Settings) (a b : List ℕ) (n : ℕ) (m : Machine) (c : ℕ) → 6 * n ≤ length a → countAfter more s (a ++ b) n m c ≡ countAfter more s a n m c
+  unfolding countAfter
+  counts-first s a b zero m c h = refl
+  counts-first s a b (suc n) m c h =
+      ap (λ (x : ℕ). x + overColumn (more (insnAt (a ++ b) n) (steps s (a ++ b) n m)) c) (counts-first s a b n m c (omega arith))
+      ∙ ap (λ (x : Machine). countAfter more s a n m c + overColumn (more (insnAt (a ++ b) n) x) c) (steps-first s a b n m (omega arith))
+      ∙ ap (λ (x : Insn). countAfter more s a n m c + overColumn (more x (steps s a n m)) c) (insn-first a b n (omega arith))
 
-ties-second : (s : Settings) (a b : List ℕ) (n : ℕ) (m : Machine) (c : ℕ) → length a % 6 ≡ 0
-    → tiesAfter s (a ++ b) (length a / 6 + n) m c ≡ tiesAfter s a (length a / 6) m c + tiesAfter s b n (steps s a (length a / 6) m) c
-unfolding tiesAfter
-ties-second s a b zero m c h =
-    ap (λ (k : ℕ). tiesAfter s (a ++ b) k m c) (add-zero (length a / 6)) ∙ ties-first s a b (length a / 6) m c (omega arith)
-    ∙ sym (add-zero (tiesAfter s a (length a / 6) m c))
-ties-second s a b (suc n) m c h =
-    ap (λ (k : ℕ). tiesAfter s (a ++ b) k m c) (add-suc (length a / 6) n)
-    ∙ ap (λ (x : ℕ). x + overColumn (tieIn (insnAt (a ++ b) (length a / 6 + n)) (steps s (a ++ b) (length a / 6 + n) m .image)) c) (ties-second s a b n m c h)
-    ∙ cc (insn-second a b n h, steps-second s a b n m h)
-    ∙ add-assoc (tiesAfter s a (length a / 6) m c) (tiesAfter s b n (steps s a (length a / 6) m) c)
-    (overColumn (tieIn (insnAt b n) (steps s b n (steps s a (length a / 6) m) .image)) c)
+  counts-second : (s : Settings) (a b : List ℕ) (n : ℕ) (m : Machine) (c : ℕ) → length a % 6 ≡ 0
+      → countAfter more s (a ++ b) (length a / 6 + n) m c ≡ countAfter more s a (length a / 6) m c + countAfter more s b n (steps s a (length a / 6) m) c
+  unfolding countAfter
+  counts-second s a b zero m c h =
+      ap (λ (k : ℕ). countAfter more s (a ++ b) k m c) (add-zero (length a / 6)) ∙ counts-first s a b (length a / 6) m c (omega arith)
+      ∙ sym (add-zero (countAfter more s a (length a / 6) m c))
+  counts-second s a b (suc n) m c h =
+      ap (λ (k : ℕ). countAfter more s (a ++ b) k m c) (add-suc (length a / 6) n)
+      ∙ ap (λ (x : ℕ). x + overColumn (more (insnAt (a ++ b) (length a / 6 + n)) (steps s (a ++ b) (length a / 6 + n) m)) c) (counts-second s a b n m c h)
+      ∙ cc (insn-second a b n h, steps-second s a b n m h)
+      ∙ add-assoc (countAfter more s a (length a / 6) m c) (countAfter more s b n (steps s a (length a / 6) m) c)
+      (overColumn (more (insnAt b n) (steps s b n (steps s a (length a / 6) m))) c)
 
 joined : (a b : List ℕ) → length a % 6 ≡ 0 → length (a ++ b) / 6 ≡ length a / 6 + length b / 6
 joined a b h = rw length-append (omega arith)
@@ -179,16 +187,21 @@ cut s a b image dst h =
     ∙ steps-second s a b (countOf b) (begin s image dst) h
     ∙ sym (steps-cursor (finish s image dst a .cursor) s b (countOf b) (finish s image dst a))
 
-pub cut-ties : (s : Settings) (a b image dst : List ℕ) (c : ℕ) → length a % 6 ≡ 0
-    → getD (tiesOf s image dst (a ++ b)) c 0
-    ≡ getD (tiesOf s image dst a) c 0
-    + getD (tiesOf (withCursor (finish s image dst a .cursor) s) (finish s image dst a .image) (finish s image dst a .dst) b) c 0
+pub cut-counts : (more : Insn → Machine → ℕ → ℕ) (s : Settings) (a b image dst : List ℕ) (c : ℕ) → length a % 6 ≡ 0
+    → getD (countsOf more s image dst (a ++ b)) c 0
+    ≡ getD (countsOf more s image dst a) c 0
+    + getD (countsOf more (withCursor (finish s image dst a .cursor) s) (finish s image dst a .image) (finish s image dst a .dst) b) c 0
 unfolding withCursor
-cut-ties s a b image dst c h =
-    counted-by (λ (x y z : ℕ). x ≡ y + z) (tiesAfter s (a ++ b) (countOf (a ++ b)) (begin s image dst)) _ _ c
+cut-counts more s a b image dst c h =
+    counted-by (λ (x y z : ℕ). x ≡ y + z) (countAfter more s (a ++ b) (countOf (a ++ b)) (begin s image dst)) _ _ c
     (λ l.
-    ap (λ (k : ℕ). tiesAfter s (a ++ b) k (begin s image dst) c) (joined a b h)
-    ∙ ties-second s a b (countOf b) (begin s image dst) c h
-    ∙ ap (λ (x : ℕ). tiesAfter s a (countOf a) (begin s image dst) c + x)
-    (sym (ties-cursor (finish s image dst a .cursor) s b (countOf b) (finish s image dst a) c)))
+    ap (λ (k : ℕ). countAfter more s (a ++ b) k (begin s image dst) c) (joined a b h)
+    ∙ counts-second more s a b (countOf b) (begin s image dst) c h
+    ∙ ap (λ (x : ℕ). countAfter more s a (countOf a) (begin s image dst) c + x)
+    (sym (counts-cursor more (finish s image dst a .cursor) s b (countOf b) (finish s image dst a) c)))
     refl
+
+-- what is stored does not depend on the settings' cursor
+pub stores-cursor : (k : ℕ) (s : Settings) → storesBy (withCursor k s) ≡ storesBy s
+unfolding storesOf withCursor
+stores-cursor k s = refl

@@ -13,15 +13,16 @@ use Rattle.lane.specs.declared.Insn.{Insn}
 use Rattle.lane.specs.declared.Order.{Order}
 use Rattle.lane.specs.declared.Order.the-variants.{Below, Equal, Above}
 use Rattle.lane.specs.declared.Stepped.{Stepped}
-use Rattle.lane.specs.Words.{pick, bit, flagOf, laneConfig, reg, enabled}
+use Rattle.lane.specs.Words.{pick, bit, flagOf, Lane, laneConfig, reg, enabled, registerStores}
 use Rattle.lane.specs.Load.{address, placeOf, bf16}
 use Rattle.lane.specs.Store.{packedBf16, cells}
 use Rattle.lane.specs.Swap.{rank, ranksBelow, compared, outOfOrder}
+use Rattle.lane.specs.Rule.{storesOf}
 use Rattle.lane.specs.Refusals.{laneStep}
 use Rattle.runner.specs.declared.Outcome.{Outcome}
 use Rattle.runner.specs.Image.{laneIn, imageGood}
 use Rattle.runner.specs.Checks.{insnAt, countOf, runAnswer, listAnswer}
-use Rattle.runner.specs.Run.{Machine, steps, begin, finish, tiesOf, noTies, Ran}
+use Rattle.runner.specs.Run.{Machine, steps, begin, finish, tiesOf, storesMade, noCounts, Ran}
 use Rattle.runner.specs.Walk.{Standing, standing, begun, entryWords, entryIn, entryOf, Call, forward, back, Called}
 use Rattle.listing.specs.declared.Reading.{Reading}
 use Rattle.listing.specs.declared.Writing.{Writing}
@@ -47,16 +48,18 @@ SameColumn c a b = (L s : ℕ) → L < 32 → L % 8 ≡ c → s < 24 → laneIn 
 unfoldable pub SameCells : ℕ → List ℕ → List ℕ → Type 0
 SameCells c d e = (p : ℕ) → p < 16384 → p % 16 / 2 ≡ c → getD d p 0 ≡ getD e p 0
 
--- Two outcomes agree for column c: in answer, place, steps and cursor, and in that column's own count of ties. The other counts are not spoken of.
+-- Two outcomes agree for column c: in answer, place, steps and cursor, and in that column's own counts, of ties and of stores. The other counts are not spoken of.
 pub record SameOutcome (c : ℕ) (o p : Outcome) : Type 0 where
   pub answer : o .answer ≡ p .answer
   pub place : o .place ≡ p .place
   pub steps : o .steps ≡ p .steps
   pub cursor : o .cursor ≡ p .cursor
   pub ties : getD (o .ties) c 0 ≡ getD (p .ties) c 0
+  pub stores : getD (o .stores) c 0 ≡ getD (p .stores) c 0
 
 -- Demand 3: two runs with one list and the same settings that agree in a column's four lanes and its two Dst columns give that column the same
--- words and, in its two Dst columns, the same cells, and the same answer, place, steps, cursor and count of its own ties, whatever the other seven hold.
+-- words and, in its two Dst columns, the same cells, and the same answer, place, steps, cursor and counts of its own ties and stores, whatever the other seven
+-- hold.
 unfoldable pub Isolated : Type 0
 Isolated =
     (c : ℕ) (s : Settings) (list a b d e : List ℕ) (o p : Outcome) (x y u v : List ℕ)
@@ -71,7 +74,7 @@ Isolated =
     → SameOutcome c o p × (SameColumn c x y × SameCells c u v)
 
 -- There are two runs that it speaks of: their images differ outside column 0, and so do their Dsts; the list is accepted, and it changes column 0, its
--- words and its cells; column 0 meets ties, and another column's counts differ.
+-- words and its cells; column 0 meets ties and makes stores, and another column's counts differ, of both.
 pub record TwoRuns : Type 0 where
   pub settings : Settings
   pub list : List ℕ
@@ -100,6 +103,8 @@ pub record TwoRuns : Type 0 where
   pub cells-changed : SameCells 0 dst stored → ⊥
   pub tied : getD (outcome .ties) 0 0 ≡ 4
   pub counts-differ : getD (outcome .ties) 1 0 ≡ getD (other-outcome .ties) 1 0 → ⊥
+  pub made : getD (outcome .stores) 0 0 ≡ 4
+  pub stores-differ : getD (outcome .stores) 1 0 ≡ getD (other-outcome .stores) 1 0 → ⊥
 
 -- Two lanes never meet in a cell of Dst, and a lane's cells lie in the two Dst columns of its own column, whatever the address.
 unfoldable pub CellsApart : Type 0
@@ -111,7 +116,7 @@ CellsApart =
 
 -- ---- runs
 
--- A refusal returns its number and place, steps 0, the given cursor and no ties, and touches no word of the image and no cell of Dst.
+-- A refusal returns its number and place, steps 0, the given cursor and counts of 0, and touches no word of the image and no cell of Dst.
 unfoldable pub RefusalTouchesNothing : Type 0
 RefusalTouchesNothing =
     (s : Settings) (image dst list : List ℕ) (o : Outcome) (after stored : List ℕ)
@@ -120,7 +125,7 @@ RefusalTouchesNothing =
     → (after ≡ image)
     × ((stored ≡ dst)
     × ((o .answer ≡ runAnswer s image dst list .answer)
-    × ((o .place ≡ runAnswer s image dst list .place) × ((o .steps ≡ 0) × ((o .cursor ≡ s .cursor) × (o .ties ≡ noTies))))))
+    × ((o .place ≡ runAnswer s image dst list .place) × ((o .steps ≡ 0) × ((o .cursor ≡ s .cursor) × ((o .ties ≡ noCounts) × (o .stores ≡ noCounts)))))))
 
 -- An instruction that the lane rules refuse leaves the lane's words and its two cells as given.
 unfoldable pub RefusedLaneTouchesNothing : Type 0
@@ -129,8 +134,8 @@ RefusedLaneTouchesNothing =
     → (laneStep s L i own head even odd .answer ≡ 0 → ⊥)
     → (laneStep s L i own head even odd .words ≡ own) × (laneStep s L i own head even odd .cells ≡ cells even odd)
 
--- A run that is done has gone through the whole list: its steps are the list's instructions, its image, Dst and cursor the ones that they lead to, and its
--- ties those that they met.
+-- A run that is done has gone through the whole list: its steps are the list's instructions, its image, Dst and cursor the ones that they lead to, its ties
+-- those that they met, and its stores those that the rules made.
 unfoldable pub GoesThroughTheList : Type 0
 GoesThroughTheList =
     (s : Settings) (image dst list : List ℕ) (o : Outcome) (after stored : List ℕ)
@@ -139,7 +144,7 @@ GoesThroughTheList =
     → (o .steps ≡ countOf list)
     × ((o .place ≡ 0)
     × ((o .cursor ≡ finish s image dst list .cursor)
-    × ((after ≡ finish s image dst list .image) × ((stored ≡ finish s image dst list .dst) × (o .ties ≡ tiesOf s image dst list)))))
+    × ((after ≡ finish s image dst list .image) × ((stored ≡ finish s image dst list .dst) × ((o .ties ≡ tiesOf s image dst list) × (o .stores ≡ storesMade s image dst list))))))
 
 -- A well formed image is well formed after every run.
 unfoldable pub WellFormedStays : Type 0
@@ -164,7 +169,7 @@ withCursor k s =
     }
 
 -- Two parts of a run, with outcomes p and q, come to the whole, with outcome o: both are done, the second ends where the whole does, and steps and each
--- column's ties add up.
+-- column's ties and stores add up.
 pub record PartsOf (o p q : Outcome) (after stored end ended : List ℕ) : Type 0 where
   pub first-done : p .answer ≡ 0
   pub second-done : q .answer ≡ 0
@@ -173,9 +178,10 @@ pub record PartsOf (o p q : Outcome) (after stored end ended : List ℕ) : Type 
   pub cursor : q .cursor ≡ o .cursor
   pub steps : o .steps ≡ p .steps + q .steps
   pub ties : (c : ℕ) → getD (o .ties) c 0 ≡ getD (p .ties) c 0 + getD (q .ties) c 0
+  pub stores : (c : ℕ) → getD (o .stores) c 0 ≡ getD (p .stores) c 0 + getD (q .stores) c 0
 
 -- A run can be cut anywhere: where a list of two parts is done, so is its first part, and so is the second from the image, the Dst and the cursor that the
--- first leaves; it ends in the same image and Dst with the same cursor, and the steps add up, and each column's ties.
+-- first leaves; it ends in the same image and Dst with the same cursor, and the steps add up, and each column's ties and stores.
 unfoldable pub CanBeCut : Type 0
 CanBeCut =
     (s : Settings) (image dst a b : List ℕ) (o p q : Outcome) (after stored middle between end ended : List ℕ)
@@ -221,6 +227,21 @@ AtMostFourTies =
     (s : Settings) (image dst list : List ℕ) (o : Outcome) (after stored : List ℕ) (c : ℕ)
     → Ran s image dst list o after stored
     → getD (o .ties) c 0 ≤ 4 * o .steps
+
+-- ---- register traffic
+
+-- No rule makes more than four stores to registers in a lane, whatever the operation.
+unfoldable pub AtMostFourInALane : Type 0
+AtMostFourInALane =
+    (op : ℕ) (s : Settings) (a : ℕ) (i : Insn) (L : ℕ) (head : Lane) (even odd : ℕ) (own : Lane)
+    → registerStores (storesOf op s a i L head even odd own) ≤ 4
+
+-- A column's stores are at most 16 for each instruction done.
+unfoldable pub AtMostSixteenStores : Type 0
+AtMostSixteenStores =
+    (s : Settings) (image dst list : List ℕ) (o : Outcome) (after stored : List ℕ) (c : ℕ)
+    → Ran s image dst list o after stored
+    → getD (o .stores) c 0 ≤ 16 * o .steps
 
 -- ---- STORE
 

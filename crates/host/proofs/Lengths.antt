@@ -1,9 +1,9 @@
--- The length that a reading or a writing returns is small, and a run's outcome is twelve words. Assumes nothing.
+-- The length that a reading or a writing returns is small, and a run's outcome is twenty words. Assumes nothing.
 use Prim.Native.Nat.{ℕ, suc, _*_, _≤_}
-use mathlib.Core.Path.{_≡_, refl, ap}
+use mathlib.Core.Path.{_≡_, refl, ap, _∙_}
 use mathlib.Core.Bool.{Bool, true, false}
 use mathlib.Core.List.{List}
-use lib.ListN.{length}
+use lib.ListN.{length, length-append}
 use borrow.Author.Tests.{eqb-true}
 use native.Mathlib.Omega.{arith}
 use Rattle.lane.specs.declared.Settings.{Settings}
@@ -15,7 +15,7 @@ use Rattle.listing.specs.Listing.{Format, written, formatOf, head, lines, setti
 use Rattle.runner.specs.Checks.{listLimit}
 use Rattle.runner.specs.Run.{outcomeOf}
 use Rattle.runner.proofs.Accepted.{listed}
-use Rattle.runner.proofs.Steps.{eight-ties}
+use Rattle.runner.proofs.Steps.{eight-counts}
 use Rattle.listing.proofs.FormatTable.{two-sound}
 use Rattle.listing.proofs.Writers.{few-words, listing-short}
 use Rattle.host.specs.Words.{outcomeWords}
@@ -64,6 +64,8 @@ write-short room s list =
 pub write-fits : (room : ℕ) (s : Settings) (list : List ℕ) (r : Writing) → r ≡ writeList room s list .writing → r .length ≤ textLimit
 write-fits room s list r e = rw e (write-short room s list)
 
-pub twelve-words : (s : Settings) (image dst list : List ℕ) → length (outcomeWords (outcomeOf s image dst list)) ≡ 12
+pub twenty-words : (s : Settings) (image dst list : List ℕ) → length (outcomeWords (outcomeOf s image dst list)) ≡ 20
 unfolding outcomeWords
-twelve-words s image dst list = ap (λ (n : ℕ). suc (suc (suc (suc n)))) (eight-ties s image dst list)
+twenty-words s image dst list =
+    let eight = eight-counts s image dst list in
+    ap (λ (n : ℕ). suc (suc (suc (suc n)))) (length-append (outcomeOf s image dst list .ties) (outcomeOf s image dst list .stores) ∙ cc (eight .0, eight .1))

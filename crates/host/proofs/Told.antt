@@ -1,12 +1,12 @@
 -- What the layers below told, of the records made from a host's words. Assumes nothing.
 use Prim.Native.Nat.{ℕ}
 use mathlib.Core.Path.{_≡_, ap, _∙_}
-use mathlib.Core.List.{List, [], _∷_}
+use mathlib.Core.List.{List, [], _∷_, _++_}
 use lib.ListN.{length, getD}
 use Rattle.lane.specs.declared.Settings.{Settings}
 use Rattle.lane.specs.declared.Insn.{Insn}
 use Rattle.lane.specs.declared.Stepped.{Stepped}
-use Rattle.lane.specs.Words.{build}
+use Rattle.lane.specs.Words.{build, laneOf}
 use Rattle.lane.specs.Refusals.{laneStep}
 use Rattle.lane.proofs.Stores.{build-own}
 use Rattle.runner.specs.declared.Outcome.{Outcome}
@@ -15,7 +15,7 @@ use Rattle.runner.specs.declared.walk.Walk.{Walk}
 use Rattle.runner.specs.declared.walk.Begun.{Begun}
 use Rattle.runner.specs.declared.walk.Walked.{Walked}
 use Rattle.runner.specs.Walk.{begun, standing, Call, Called}
-use Rattle.runner.proofs.Steps.{eight-ties}
+use Rattle.runner.proofs.Steps.{eight-counts}
 use Rattle.listing.specs.declared.Reading.{Reading}
 use Rattle.listing.specs.declared.Writing.{Writing}
 use Rattle.listing.specs.declared.Reporting.{Reporting}
@@ -33,11 +33,21 @@ oneByOne o =
     ∷ (getD (o .ties) 0 0
     ∷ (getD (o .ties) 1 0
     ∷ (getD (o .ties) 2 0
-    ∷ (getD (o .ties) 3 0 ∷ (getD (o .ties) 4 0 ∷ (getD (o .ties) 5 0 ∷ (getD (o .ties) 6 0 ∷ (getD (o .ties) 7 0 ∷ [])))))))))))
+    ∷ (getD (o .ties) 3 0
+    ∷ (getD (o .ties) 4 0
+    ∷ (getD (o .ties) 5 0
+    ∷ (getD (o .ties) 6 0
+    ∷ (getD (o .ties) 7 0
+    ∷ (getD (o .stores) 0 0
+    ∷ (getD (o .stores) 1 0
+    ∷ (getD (o .stores) 2 0
+    ∷ (getD (o .stores) 3 0 ∷ (getD (o .stores) 4 0 ∷ (getD (o .stores) 5 0 ∷ (getD (o .stores) 6 0 ∷ (getD (o .stores) 7 0 ∷ [])))))))))))))))))))
 
-laid-out : (o : Outcome) → length (o .ties) ≡ 8 → oneByOne o ≡ outcomeWords o
+laid-out : (o : Outcome) → (length (o .ties) ≡ 8) × (length (o .stores) ≡ 8) → oneByOne o ≡ outcomeWords o
 unfolding outcomeWords build
-laid-out o e = ap (λ (ws : List ℕ). o .answer ∷ (o .steps ∷ (o .place ∷ (o .cursor ∷ ws)))) (build-own 8 (o .ties) e)
+laid-out o e =
+    ap (λ (ws : List ℕ). o .answer ∷ (o .steps ∷ (o .place ∷ (o .cursor ∷ (ws ++ build 8 (laneOf (o .stores))))))) (build-own 8 (o .ties) (e .0))
+    ∙ ap (λ (ws : List ℕ). o .answer ∷ (o .steps ∷ (o .place ∷ (o .cursor ∷ (o .ties ++ ws))))) (build-own 8 (o .stores) (e .1))
 
 pub told-run :
     (s t : Settings) (image dst list left stored : List ℕ) (o : Outcome)
@@ -47,9 +57,10 @@ pub told-run :
     × ((oneByOne o ≡ outcomeWords (outcomeOf t image dst list))
     × ((left ≡ runImage t image dst list) × (stored ≡ runDst t image dst list)))
 told-run s t image dst list left stored o e h =
-    let eight = ap (λ (x : Outcome). length (x .ties)) (h .outcome-is) ∙ eight-ties s image dst list in
+    let eight = eight-counts s image dst list in
+    let long : (length (o .ties) ≡ 8) × (length (o .stores) ≡ 8) = (ap (λ (x : Outcome). length (x .ties)) (h .outcome-is) ∙ eight .0, ap (λ (x : Outcome). length (x .stores)) (h .outcome-is) ∙ eight .1) in
     rw (← e)
-    (ap (λ (x : Outcome). x .answer) (h .outcome-is), (laid-out o eight ∙ ap outcomeWords (h .outcome-is), (h .image-is, h .dst-is)))
+    (ap (λ (x : Outcome). x .answer) (h .outcome-is), (laid-out o long ∙ ap outcomeWords (h .outcome-is), (h .image-is, h .dst-is)))
 
 -- the start of a walk, as it is told: `walk` are the two words afterwards
 pub told-begin :

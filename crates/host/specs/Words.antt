@@ -1,6 +1,6 @@
 -- How a host lays out in words what the layers below take and return as records.
 use Prim.Native.Nat.{ℕ}
-use mathlib.Core.List.{List, [], _∷_}
+use mathlib.Core.List.{List, [], _∷_, _++_}
 use lib.ListN.{getD}
 use lib.Dec.{eqb}
 use Rattle.lane.specs.declared.Settings.{Settings}
@@ -25,9 +25,9 @@ insnOf ws =
       md = getD ws 5 0;
     }
 
--- An outcome is twelve words: answer, steps, place, cursor, and the ties of columns 0 to 7.
+-- An outcome is twenty words: answer, steps, place, cursor, the ties of columns 0 to 7, and the stores of columns 0 to 7.
 unfoldable pub outcomeWords : Outcome → List ℕ
-outcomeWords o = o .answer ∷ (o .steps ∷ (o .place ∷ (o .cursor ∷ o .ties)))
+outcomeWords o = o .answer ∷ (o .steps ∷ (o .place ∷ (o .cursor ∷ (o .ties ++ o .stores))))
 
 -- A walk is two words: at, cursor.
 unfoldable pub walkOf : List ℕ → Walk
@@ -57,4 +57,4 @@ writingWords r = r .answer ∷ (r .steps ∷ (r .place ∷ (r .cursor ∷ (r .le
 
 -- What the library replays: 1000 is document 01 by itself, and 1000 plus n is with the requests of document 02 up to M-n.
 abbrev pub version : ℕ
-version = 1105
+version = 1106

@@ -27,7 +27,7 @@ ghost use Rattle.listing.specs.Report.{reported, reporting};
 ghost use Rattle.host.specs.Words.{settingsWords, insnOf, outcomeWords, begunWords, walkOf, walkBegun, cellsWords, readingWords, writingWords, version};
 
 // What the library replays, as specs/ counts it.
-const VERSION: u32 = 1105;
+const VERSION: u32 = 1106;
 
 // An instruction, from six words in the list's order.
 fn insn_of(words: &[u32; 6]) -> Insn
@@ -44,14 +44,14 @@ fn insn_of(words: &[u32; 6]) -> Insn
 }
 
 // A run of a list over an image and a Dst: a refusal leaves both as they were. The answer is returned, and stands first in `outcome`; the ties of the
-// columns stand last.
+// columns, and then their stores, stand last.
 #[no_mangle]
 pub extern "C" fn replay_run(
     settings: &[u32; 8],
     image: &mut [u32],
     dst: &mut [u16],
     list: &[u32],
-    outcome: &mut [u32; 12],
+    outcome: &mut [u32; 20],
 ) -> u32
     ensures { λ r. ⌜ r ≡ outcomeOf (settingsOf (now (settings .entry))) (now (image .entry)) (now (dst .entry)) (now (list .entry)) .answer ⌝ }
     ensures { λ _. ⌜ now (outcome .exit) ≡ outcomeWords (outcomeOf (settingsOf (now (settings .entry))) (now (image .entry)) (now (dst .entry)) (now (list .entry))) ⌝ }
@@ -60,6 +60,7 @@ pub extern "C" fn replay_run(
 {
     let o = run(settings_of(settings), image, dst, list);
     let ties = o.ties;
+    let stores = o.stores;
     *outcome = [
         o.answer,
         o.steps,
@@ -73,6 +74,14 @@ pub extern "C" fn replay_run(
         ties[5],
         ties[6],
         ties[7],
+        stores[0],
+        stores[1],
+        stores[2],
+        stores[3],
+        stores[4],
+        stores[5],
+        stores[6],
+        stores[7],
     ];
     o.answer
 }

@@ -1,22 +1,27 @@
 -- CONFIG: rows that are the same in each column, and the stores by rows, which are in each lane those of the rule. Assumes nothing.
 use mathlib.Core.Path.{_≡_, refl, sym, ap, _∙_}
 use Prim.Native.Nat.{ℕ, _+_, _*_, _%_, _<_, _≤_}
+use native.Mathlib.Nat.{mul-zero, mul-one}
 use native.Mathlib.Omega.{arith}
 use native.Mathlib.Decide.{ℕ-discrete}
 use mathlib.Core.Bool.{Bool, true, false, not, _&&_, _||_}
 use mathlib.Core.List.{List, [], _∷_}
-use lib.ListN.{getD, set}
+use lib.ListN.{length, getD, set}
 use lib.Dec.{eqb, ltb}
 use borrow.Author.Tests.{lt-ltb, le-ltb, eq-eqb, ne-eqb, le-leb, lt-leb}
 use Rattle.lane.specs.declared.Insn.{Insn}
-use Rattle.lane.specs.Words.{pick, has, bit, Lane, Stores, laneFlag, useFlag}
+use Rattle.lane.specs.Words.{pick, has, bit, flagOf, Lane, Stores, laneFlag, useFlag, registerStores}
 use Rattle.lane.specs.Config.{passedOver, highStore, configStore, configWith, config}
 use Rattle.lane.proofs.Cases.{pick-true, pick-false}
+use Rattle.lane.proofs.Counted.{flag-true, flag-false, config-count, none-count}
 use Rattle.runner.specs.Image.{laneIn}
 use Rattle.runner.specs.PrivateRows.{row, full, storing}
 use Rattle.runner.specs.PrivateConfig.{columns, reached, reachedIn, configSlot, configValue, written}
+use Rattle.runner.specs.PrivateSteps.{counted, times}
 use Rattle.runner.proofs.Lanes.{split, storing-same}
 use Rattle.runner.proofs.Filled.{Spread, columns-more, spread-end, operand}
+use Rattle.runner.proofs.Counts.{counted-same, counted-none}
+use Rattle.runner.proofs.Tallied.{times-none}
 
 -- ---- rows of columns
 
@@ -99,3 +104,38 @@ no-config edition i L head own a b =
 -- over all lanes
 pub config-lanes : (image x : List ℕ) (a b : ℕ → Stores) → x ≡ storing image a → ((L : ℕ) → L < 32 → a L ≡ b L) → x ≡ storing image b
 config-lanes image x a b e h = e ∙ storing-same image a b h
+
+-- the stores that are counted are those of the rule: one in each lane that is reached, for registers 11 to 14
+pub config-counted : (edition : ℕ) (i : Insn) (image before counts : List ℕ)
+    → counts ≡ counted before (times (flagOf (ltb 10 (i .vd) && ltb (i .vd) 15)) (λ L. reached i (laneIn image (L % 8)) (L % 8)))
+    → counts ≡ counted before (λ L. registerStores (config edition i L (laneIn image (L % 8)) (laneIn image L)))
+unfolding reached config
+config-counted edition i image before counts h =
+    h
+    ∙ counted-same before _ _
+    (λ L l.
+    ap (λ (k : ℕ). flagOf (ltb 10 (i .vd) && ltb (i .vd) 15) * flagOf (not ((has (i .md) 8 && not (bit (i .imm) (2 * k))) || (eqb (laneIn image (L % 8) useFlag) 1 && eqb (laneIn image (L % 8) laneFlag) 0)))) (same L)
+    ∙ turned (passedOver (i .md) (i .imm) L (laneIn image (L % 8) useFlag) (laneIn image (L % 8) laneFlag)) (flagOf (ltb 10 (i .vd) && ltb (i .vd) 15))
+    ∙ sym (config-count edition i L (laneIn image (L % 8) useFlag) (laneIn image (L % 8) laneFlag) (laneIn image (L % 8) 0) (laneIn image L)))
+  where
+    same : (L : ℕ) → L % 8 % 8 ≡ L % 8
+    same L = omega arith
+
+    turned : (t : Bool) (n : ℕ) → n * flagOf (not t) ≡ pick t 0 n
+    turned true n = ap (λ (k : ℕ). n * k) flag-false ∙ mul-zero n ∙ sym (pick-true true 0 n refl)
+    turned false n = ap (λ (k : ℕ). n * k) flag-true ∙ mul-one n ∙ sym (pick-false false 0 n refl)
+
+-- and none for vd 9 and 10
+pub no-counts : (edition : ℕ) (i : Insn) (image stores : List ℕ) → length stores ≡ 8 → 9 ≤ i .vd → i .vd ≤ 10
+    → stores ≡ counted stores (λ L. registerStores (config edition i L (laneIn image (L % 8)) (laneIn image L)))
+no-counts edition i image stores e a b =
+    counted-none stores _ e (λ L l. ap registerStores (no-config edition i L (laneIn image (L % 8)) (laneIn image L) a b) ∙ none-count)
+
+-- whether vd is one of them
+pub is-constant : (vd : ℕ) (stores counts : List ℕ) (e : ℕ → Bool) → (ltb 10 vd && ltb vd 15) ≡ true → counts ≡ counted stores (times 1 e)
+    → counts ≡ counted stores (times (flagOf (ltb 10 vd && ltb vd 15)) e)
+is-constant vd stores counts e h p = p ∙ ap (λ (n : ℕ). counted stores (times n e)) (sym (ap flagOf h ∙ flag-true))
+
+pub not-constant : (vd : ℕ) (stores : List ℕ) (e : ℕ → Bool) → (ltb 10 vd && ltb vd 15) ≡ false → length stores ≡ 8
+    → stores ≡ counted stores (times (flagOf (ltb 10 vd && ltb vd 15)) e)
+not-constant vd stores e h l = times-none stores e l ∙ ap (λ (n : ℕ). counted stores (times n e)) (sym (ap flagOf h ∙ flag-false))

@@ -1,6 +1,7 @@
--- Ties: eight counters, what an instruction adds to them, and what a list adds up to. Assumes nothing.
+-- Eight counters, of ties and of stores: what an instruction adds to them, and what a list adds up to. Assumes nothing.
 use mathlib.Core.Path.{_≡_, refl, sym, ap, _∙_}
-use Prim.Native.Nat.{ℕ, zero, suc, _+_, _*_, _^_, _<_, _≤_}
+use Prim.Native.Nat.{ℕ, zero, suc, _+_, _*_, _%_, _^_, _<_, _≤_}
+use native.Mathlib.Nat.{le-trans, le-of-eq, add-le-add, suc-mul}
 use native.Mathlib.Numerals.{add-one}
 use native.Mathlib.Omega.{arith}
 use native.Mathlib.Decide.{ℕ-discrete}
@@ -16,22 +17,19 @@ use Rattle.lane.specs.declared.Insn.{Insn}
 use Rattle.lane.specs.Words.{pick, bit, flagOf, build, reg}
 use Rattle.lane.specs.Swap.{compared, isEqual, tied, tiedWith}
 use Rattle.lane.specs.Rule.{isTied}
+use Rattle.lane.specs.Load.{address}
 use Rattle.lane.proofs.Ranks.{tied-words}
+use Rattle.lane.proofs.Counted.{flag-small, at-most-four}
 use Rattle.lane.proofs.Stores.{length-build, getD-build, build-same}
 use Rattle.runner.specs.Image.{laneIn}
 use Rattle.runner.specs.Checks.{insnAt, listLimit}
-use Rattle.runner.specs.Run.{Machine, steps, tieIn, overColumn, tiesAfter, noTies}
+use Rattle.runner.specs.Run.{Machine, steps, tieIn, tiesBy, storesBy, overColumn, countAfter, noCounts}
 use Rattle.runner.specs.PrivateRows.{row, full}
 use Rattle.runner.specs.PrivateSwap.{tiedBy}
 use Rattle.runner.specs.PrivateSteps.{counted, Room}
 use Rattle.runner.proofs.Filled.{none-below, operand}
 
 -- ---- one lane
-
-flag-small : (t : Bool) → flagOf t ≤ 1
-unfolding flagOf pick
-flag-small true = omega arith
-flag-small false = omega arith
 
 pub flag-le : (r : ℕ) (t : Bool) → r ≡ flagOf t → r ≤ 1
 flag-le r t e = omega (arith, flag-small t)
@@ -55,7 +53,7 @@ tie-made go m config c d free e fc fd h g =
 
 -- ---- the eight counters
 
-counted-same : (ties : List ℕ) (f g : ℕ → ℕ) → ((L : ℕ) → L < 32 → f L ≡ g L) → counted ties f ≡ counted ties g
+pub counted-same : (ties : List ℕ) (f g : ℕ → ℕ) → ((L : ℕ) → L < 32 → f L ≡ g L) → counted ties f ≡ counted ties g
 unfolding counted
 counted-same ties f g h = build-same 8 _ _ (λ c l. cc (h c (omega arith), h (8 + c) (omega arith), h (16 + c) (omega arith), h (24 + c) (omega arith)))
 
@@ -68,28 +66,31 @@ pub record Counting (more : ℕ → ℕ) (before : List ℕ) (n : ℕ) (ties : L
 pub counting-start : (more : ℕ → ℕ) (before : List ℕ) → length before ≡ 8 → Counting more before 0 before
 counting-start more before e = record { long = e; made = λ c l. absurd (none-below c l); kept = λ c l. refl }
 
-pub counting-more : (more : ℕ → ℕ) (before : List ℕ) (n : ℕ) (ties : List ℕ) (a b c d v : ℕ) → n < 8 → Counting more before n ties
-    → a ≡ more n → b ≡ more (8 + n) → c ≡ more (16 + n) → d ≡ more (24 + n) → v ≡ getD ties n 0 + a + b + c + d
+pub counting-more : (more : ℕ → ℕ) (before : List ℕ) (n : ℕ) (ties : List ℕ) (v : ℕ) → n < 8 → Counting more before n ties → v ≡ getD ties n 0 + overColumn more n
     → Counting more before (n + 1) (set ties n v)
-counting-more more before n ties a b c d v l h ea eb ec ed ev =
+counting-more more before n ties v l h ev =
     record {
       long = length-set ties n v ∙ h .long;
       made = λ k m. at k m (ℕ-discrete k n);
       kept = λ k m. getD-set-other ties n k v 0 (λ e. omega arith) ∙ h .kept k (omega arith);
     }
   where
+    at : (k : ℕ) → k < n + 1 → Dec (k ≡ n) → getD (set ties n v) k 0 ≡ getD before k 0 + overColumn more k
+    at k m (yes q) =
+        ap (λ (j : ℕ). getD (set ties n v) j 0) q ∙ getD-set-same ties n v 0 (omega (arith, h .long)) ∙ ev ∙ cc (h .kept n (omega arith), q)
+    at k m (no q) = getD-set-other ties n k v 0 q ∙ h .made k (omega arith)
+
+-- the four lanes of a column, as the code adds them up
+pub column-sum : (more : ℕ → ℕ) (n x a b c d : ℕ) → a ≡ more n → b ≡ more (8 + n) → c ≡ more (16 + n) → d ≡ more (24 + n)
+    → x + a + b + c + d ≡ x + overColumn more n
+column-sum more n x a b c d ea eb ec ed = sum x a b c d ∙ cc (ea, eb, ec, ed)
+  where
     sum : (x a b c d : ℕ) → x + a + b + c + d ≡ x + (a + b + c + d)
     sum x a b c d = omega arith
 
-    at : (k : ℕ) → k < n + 1 → Dec (k ≡ n) → getD (set ties n v) k 0 ≡ getD before k 0 + overColumn more k
-    at k m (yes q) =
-        ap (λ (j : ℕ). getD (set ties n v) j 0) q ∙ getD-set-same ties n v 0 (omega (arith, h .long)) ∙ ev ∙ sum (getD ties n 0) a b c d
-        ∙ cc (h .kept n (omega arith), ea, eb, ec, ed, q)
-    at k m (no q) = getD-set-other ties n k v 0 q ∙ h .made k (omega arith)
-
 -- and there is room for it
-pub room-kept : (more : ℕ → ℕ) (before : List ℕ) (n : ℕ) (ties : List ℕ) → n < 8 → Room before → Counting more before n ties → getD ties n 0 + 4 < 2 ^ 32
-room-kept more before n ties l r h = omega (arith, r .free n l, h .kept n (omega arith))
+pub room-kept : (more : ℕ → ℕ) (before : List ℕ) (n : ℕ) (ties : List ℕ) (m : ℕ) → n < 8 → Room m before → Counting more before n ties → getD ties n 0 + m < 2 ^ 32
+room-kept more before n ties m l r h = omega (arith, r .free n l, h .kept n (omega arith))
 
 pub counting-end : (more : ℕ → ℕ) (before : List ℕ) (n : ℕ) (ties : List ℕ) → 8 ≤ n → Counting more before n ties → ties ≡ counted before more
 unfolding counted
@@ -101,7 +102,7 @@ nothing-more : (n a b c d : ℕ) → a ≡ 0 → b ≡ 0 → c ≡ 0 → d ≡ 0
 nothing-more n a b c d p q r s = omega arith
 
 -- with nothing to count, all are counted as they are
-counted-none : (ties : List ℕ) (f : ℕ → ℕ) → length ties ≡ 8 → ((L : ℕ) → L < 32 → f L ≡ 0) → ties ≡ counted ties f
+pub counted-none : (ties : List ℕ) (f : ℕ → ℕ) → length ties ≡ 8 → ((L : ℕ) → L < 32 → f L ≡ 0) → ties ≡ counted ties f
 counted-none ties f e h =
     counting-end f ties 8 ties (omega arith)
     (record {
@@ -112,6 +113,36 @@ counted-none ties f e h =
           (h (24 + c) (omega arith));
       kept = λ c l. refl;
     })
+
+-- counted twice
+pub counted-twice : (counts : List ℕ) (f g : ℕ → ℕ) → counted (counted counts f) g ≡ counted counts (λ L. f L + g L)
+unfolding counted
+counted-twice counts f g =
+    build-same 8 _ _
+    (λ c l.
+    ap (λ (n : ℕ). n + overColumn g c) (getD-build 8 (λ c. getD counts c 0 + overColumn f c) c l)
+    ∙ both (getD counts c 0) (f c) (f (8 + c)) (f (16 + c)) (f (24 + c)) (g c) (g (8 + c)) (g (16 + c)) (g (24 + c)))
+  where
+    both : (n a b c d x y z w : ℕ) → n + (a + b + c + d) + (x + y + z + w) ≡ n + ((a + x) + (b + y) + (c + z) + (d + w))
+    both n a b c d x y z w = omega arith
+
+pub length-counted : (counts : List ℕ) (f : ℕ → ℕ) → length (counted counts f) ≡ 8
+unfolding counted
+length-counted counts f = length-build 8 (λ c. getD counts c 0 + overColumn f c)
+
+-- room for fewer, and after a count
+pub room-less : (m n : ℕ) (counts : List ℕ) → m ≤ n → Room n counts → Room m counts
+room-less m n counts l r = record { eight = r .eight; free = λ c h. omega (arith, r .free c h) }
+
+pub room-after : (m n k : ℕ) (before counts : List ℕ) (f : ℕ → ℕ) → k + n ≤ m → Room m before → ((c : ℕ) → overColumn f c ≤ k) → counts ≡ counted before f → Room n counts
+unfolding counted
+room-after m n k before counts f l r h e =
+    record {
+      eight = ap length e ∙ length-build 8 (λ c. getD before c 0 + overColumn f c);
+      free =
+          λ c j.
+          omega (arith, r .free c j, h c, ap (λ (x : List ℕ). getD x c 0) e ∙ getD-build 8 (λ c. getD before c 0 + overColumn f c) c j);
+    }
 
 -- ---- a SWAP
 
@@ -152,40 +183,71 @@ other-op op n e h o = eqb-false n 4 h (sym e ∙ o)
 
 -- ---- a list
 
-pub few-ties : (s : Settings) (list : List ℕ) (n : ℕ) (m : Machine) (c : ℕ) → tiesAfter s list n m c ≤ 4 * n
-unfolding tiesAfter
-few-ties s list zero m c = omega arith
-few-ties s list (suc n) m c = more _ _ _ _ _ n (few-ties s list n m c) (flag-small _) (flag-small _) (flag-small _) (flag-small _)
+-- what a column's four lanes have at most n of, an instruction, comes to at most n for each
+pub few-counts : (more : Insn → Machine → ℕ → ℕ) (n : ℕ) → ((i : Insn) (m : Machine) (c : ℕ) → overColumn (more i m) c ≤ n)
+    → (s : Settings) (list : List ℕ) (k : ℕ) (m : Machine) (c : ℕ)
+    → countAfter more s list k m c ≤ k * n
+unfolding countAfter
+few-counts more n h s list zero m c = omega arith
+few-counts more n h s list (suc k) m c =
+    le-trans (add-le-add (few-counts more n h s list k m c) (h (insnAt list k) (steps s list k m) c)) (le-of-eq (sym (suc-mul k n)))
+
+four-ties : (i : Insn) (m : Machine) (c : ℕ) → overColumn (tiesBy i m) c ≤ 4
+four-ties i m c = omega (arith, flag-small (tie c), flag-small (tie (8 + c)), flag-small (tie (16 + c)), flag-small (tie (24 + c)))
   where
-    more : (x a b c d n : ℕ) → x ≤ 4 * n → a ≤ 1 → b ≤ 1 → c ≤ 1 → d ≤ 1 → x + (a + b + c + d) ≤ 4 * suc n
-    more x a b c d n h p q r s = omega arith
+    tie : ℕ → Bool
+    tie L = isTied (i .op) i L (laneIn (m .image) L)
+
+pub few-ties : (s : Settings) (list : List ℕ) (k : ℕ) (m : Machine) (c : ℕ) → countAfter tiesBy s list k m c ≤ k * 4
+few-ties s list k m c = few-counts tiesBy 4 four-ties s list k m c
+
+pub few-stores : (s : Settings) (list : List ℕ) (k : ℕ) (m : Machine) (c : ℕ) → countAfter (storesBy s) s list k m c ≤ k * 16
+few-stores s list k m c = few-counts (storesBy s) 16 sixteen s list k m c
+  where
+    four : (i : Insn) (m : Machine) (L : ℕ) → storesBy s i m L ≤ 4
+    four i m L = at-most-four (i .op) s (address (i .imm) (s .offset) (m .cursor)) i L (laneIn (m .image) (L % 8)) _ _ (laneIn (m .image) L)
+
+    sixteen : (i : Insn) (m : Machine) (c : ℕ) → overColumn (storesBy s i m) c ≤ 16
+    sixteen i m c = omega (arith, four i m c, four i m (8 + c), four i m (16 + c), four i m (24 + c))
 
 -- so there is room
-pub room-left : (s : Settings) (list : List ℕ) (n : ℕ) (m : Machine) (ties : List ℕ) → n ≤ listLimit → ties ≡ build 8 (tiesAfter s list n m) → Room ties
+pub room-left : (s : Settings) (list : List ℕ) (n : ℕ) (m : Machine) (ties : List ℕ) → n ≤ listLimit → ties ≡ build 8 (countAfter tiesBy s list n m) → Room 4 ties
 room-left s list n m ties l e =
     record {
-      eight = ap length e ∙ length-build 8 (tiesAfter s list n m);
-      free = λ c h. small (getD ties c 0) (tiesAfter s list n m c) (ap (λ (x : List ℕ). getD x c 0) e ∙ getD-build 8 (tiesAfter s list n m) c h) (few-ties s list n m c);
+      eight = ap length e ∙ length-build 8 (countAfter tiesBy s list n m);
+      free =
+          λ c h.
+          small (getD ties c 0) (countAfter tiesBy s list n m c) (ap (λ (x : List ℕ). getD x c 0) e ∙ getD-build 8 (countAfter tiesBy s list n m) c h)
+          (few-ties s list n m c);
     }
   where
-    small : (x y : ℕ) → x ≡ y → y ≤ 4 * n → x + 4 < 2 ^ 32
+    small : (x y : ℕ) → x ≡ y → y ≤ n * 4 → x + 4 < 2 ^ 32
     small x y p q = omega arith
 
 -- eight zeros, as code writes them
-pub zeros-are : 0 ∷ 0 ∷ 0 ∷ 0 ∷ 0 ∷ 0 ∷ 0 ∷ 0 ∷ [] ≡ noTies
+pub zeros-are : 0 ∷ 0 ∷ 0 ∷ 0 ∷ 0 ∷ 0 ∷ 0 ∷ 0 ∷ [] ≡ noCounts
 unfolding build
 zeros-are = refl
 
-pub ties-start : (s : Settings) (list : List ℕ) (m : Machine) → noTies ≡ build 8 (tiesAfter s list 0 m)
-unfolding tiesAfter
-ties-start s list m = refl
+pub counts-start : (more : Insn → Machine → ℕ → ℕ) (s : Settings) (list : List ℕ) (m : Machine) → noCounts ≡ build 8 (countAfter more s list 0 m)
+unfolding countAfter
+counts-start more s list m = refl
 
-pub ties-more : (s : Settings) (list : List ℕ) (k : ℕ) (m : Machine) (i : Insn) (image before ties : List ℕ) → before ≡ build 8 (tiesAfter s list k m)
-    → i ≡ insnAt list k → image ≡ steps s list k m .image → ties ≡ counted before (tieIn i image)
-    → ties ≡ build 8 (tiesAfter s list (k + 1) m)
-unfolding counted tiesAfter
-ties-more s list k m i image before ties b e g h =
-    h ∙ build-same 8 _ _ (λ c l. at c l) ∙ ap (λ (n : ℕ). build 8 (tiesAfter s list n m)) (sym (add-one k))
+pub counts-more : (more : Insn → Machine → ℕ → ℕ) (s : Settings) (list : List ℕ) (k : ℕ) (m : Machine) (f : ℕ → ℕ) (before counts : List ℕ)
+    → before ≡ build 8 (countAfter more s list k m)
+    → ((L : ℕ) → L < 32 → f L ≡ more (insnAt list k) (steps s list k m) L)
+    → counts ≡ counted before f
+    → counts ≡ build 8 (countAfter more s list (k + 1) m)
+unfolding counted countAfter
+counts-more more s list k m f before counts b h e =
+    e ∙ build-same 8 _ _ (λ c l. at c l) ∙ ap (λ (n : ℕ). build 8 (countAfter more s list n m)) (sym (add-one k))
   where
-    at : (c : ℕ) → c < 8 → getD before c 0 + overColumn (tieIn i image) c ≡ tiesAfter s list k m c + overColumn (tieIn (insnAt list k) (steps s list k m .image)) c
-    at c l = cc (ap (λ (x : List ℕ). getD x c 0) b ∙ getD-build 8 (tiesAfter s list k m) c l, e, g)
+    at : (c : ℕ) → c < 8 → getD before c 0 + overColumn f c ≡ countAfter more s list k m c + overColumn (more (insnAt list k) (steps s list k m)) c
+    at c l =
+        cc (
+          ap (λ (x : List ℕ). getD x c 0) b ∙ getD-build 8 (countAfter more s list k m) c l,
+          h c (omega arith),
+          h (8 + c) (omega arith),
+          h (16 + c) (omega arith),
+          h (24 + c) (omega arith),
+        )

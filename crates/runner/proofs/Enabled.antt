@@ -52,17 +52,19 @@ quiet-use [] own h = refl
 quiet-use (s ∷ st) own h =
     quiet-use st (upd own (s .0) (s .1)) (h .1) ∙ upd-other own (s .0) (s .1) 14 (turned-round (s .0) 14 (h .0 .1))
 
+-- a lane that makes such stores is enabled after them exactly if it was
+pub quiet-lane : (image x : List ℕ) (made : ℕ → Stores) (L : ℕ) → L < 32 → Quiet (made L) → x ≡ storing image made → enabled (laneIn x L) ≡ enabled (laneIn image L)
+quiet-lane image x made L l h e =
+    same-test x image L
+    (ap (λ (y : List ℕ). laneIn y L 13) e ∙ lane-storing image made L 13 l (omega arith) ∙ quiet-flag (made L) (laneIn image L) h)
+    (ap (λ (y : List ℕ). laneIn y L 14) e ∙ lane-storing image made L 14 l (omega arith) ∙ quiet-use (made L) (laneIn image L) h)
+  where
+    same-test : (a b : List ℕ) (L : ℕ) → laneIn a L 13 ≡ laneIn b L 13 → laneIn a L 14 ≡ laneIn b L 14 → enabled (laneIn a L) ≡ enabled (laneIn b L)
+    same-test a b L p q = cc
+
 pub quiet-enabled : (go image x : List ℕ) (made : ℕ → Stores) → ((L : ℕ) → L < 32 → Quiet (made L)) → Enabled go image → x ≡ storing image made → Enabled go x
 quiet-enabled go image x made h g e =
-    record { size = g .size; mask-is = λ L l. g .mask-is L l ∙ same-enabled image x L L (flag L l) (uses L l) }
-  where
-    flag : (L : ℕ) → L < 32 → laneIn image L 13 ≡ laneIn x L 13
-    flag L l =
-        sym (ap (λ (y : List ℕ). laneIn y L 13) e ∙ lane-storing image made L 13 l (omega arith) ∙ quiet-flag (made L) (laneIn image L) (h L l))
-
-    uses : (L : ℕ) → L < 32 → laneIn image L 14 ≡ laneIn x L 14
-    uses L l =
-        sym (ap (λ (y : List ℕ). laneIn y L 14) e ∙ lane-storing image made L 14 l (omega arith) ∙ quiet-use (made L) (laneIn image L) (h L l))
+    record { size = g .size; mask-is = λ L l. g .mask-is L l ∙ ap full (sym (quiet-lane image x made L l (h L l) e)) }
 
 -- ---- one lane's flags changed, and its mask with them
 

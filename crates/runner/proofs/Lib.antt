@@ -8,11 +8,12 @@ pub mod Enabled
 pub mod Quiet
 pub mod Made
 pub mod Operands
+pub mod Counts
+pub mod Tallied
 pub mod ComputeRows
 pub mod Dsts
 pub mod LoadRows
 pub mod SwapRows
-pub mod Counts
 pub mod StoreRows
 pub mod LutRows
 pub mod ConfigRows

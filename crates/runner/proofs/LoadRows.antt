@@ -9,17 +9,21 @@ use lib.Bits.{bitAnd, bitOr}
 use lib.Dec.{eqb, ltb}
 use borrow.Author.Tests.{lt-ltb, le-ltb, ne-eqb}
 use Rattle.lane.specs.declared.Insn.{Insn}
-use Rattle.lane.specs.Words.{pick, bit, flagOf, Lane, Stores, build, laneConfig, enabled, after}
+use Rattle.lane.specs.Words.{pick, bit, flagOf, Lane, Stores, build, laneConfig, enabled, after, registerStores}
 use Rattle.lane.specs.Load.{placeOf, loaded, loads, captures, loadWith, load, loadi, immediate}
-use Rattle.lane.proofs.Cases.{pick-false, pick-lt, has-one}
+use Rattle.lane.proofs.Cases.{pick-true, pick-false, pick-lt, has-one}
+use Rattle.lane.proofs.Counted.{flag-true, flag-false, load-count}
 use Rattle.lane.proofs.Places.{even-place, odd-place, place-is}
 use Rattle.lane.proofs.Stores.{getD-build, upd-other}
 use Rattle.runner.specs.Image.{laneIn}
 use Rattle.runner.specs.Run.{evenCell, oddCell}
-use Rattle.runner.specs.PrivateRows.{storing, storingIn, row, full, Enabled}
-use Rattle.runner.specs.PrivateLoad.{oddAt, oddIn, isOpen, openIn, cellOf, loadedAt, loadedOnly, capturedOnly}
-use Rattle.runner.proofs.Lanes.{storing-same, storing-then, lane-storing, Turned, turn-lane, turn-more}
+use Rattle.runner.specs.PrivateRows.{storing, storingIn, row, full, MarksAt, Enabled}
+use Rattle.runner.specs.PrivateLoad.{oddAt, oddIn, isOpen, openIn, isCaught, caughtIn, cellOf, loadedAt, loadedOnly, capturedOnly}
+use Rattle.runner.specs.PrivateSteps.{counted, Room, times}
+use Rattle.runner.proofs.Lanes.{storing-same, storing-then, storing-none, lane-storing, Turned, turn-lane, turn-more}
 use Rattle.runner.proofs.Filled.{Spread, put-holds, columns-more, operand, row-same}
+use Rattle.runner.proofs.Counts.{counted-same, counted-none, counted-twice, room-after}
+use Rattle.runner.proofs.Tallied.{row-marks, times-few}
 
 -- ---- masks
 
@@ -173,6 +177,9 @@ module _ (image x : List ℕ) (vd m : ℕ) (cell : ℕ → ℕ) (h : vd < 8) (p 
       row-same _ _
       (λ L l. cc (slot-kept L 12 l (omega arith) (omega arith), slot-kept L 13 l (omega arith) (omega arith), slot-kept L 14 l (omega arith) (omega arith)))
 
+  caught-kept : (L : ℕ) → L < 32 → isCaught vd image L ≡ isCaught vd x L
+  caught-kept L l = cc (slot-kept L 12 l (omega arith) (omega arith), slot-kept L 13 l (omega arith) (omega arith), slot-kept L 14 l (omega arith) (omega arith))
+
   load-both : (y : List ℕ) (place : ℕ → ℕ) → y ≡ storing x (λ L. capturedOnly vd (place L) (laneIn x L))
       → y ≡ storing image (λ L. loadWith vd m (cell L) (place L) (laneIn image L))
   unfolding loadedOnly capturedOnly loadWith
@@ -187,7 +194,7 @@ module _ (image x : List ℕ) (vd m : ℕ) (cell : ℕ → ℕ) (h : vd < 8) (p 
       reads : (L : ℕ) → L < 32 → capturedOnly vd (place L) (laneIn x L) ≡ capturedOnly vd (place L) (laneIn image L)
       reads L l = cc (slot-kept L 12 l (omega arith) (omega arith), slot-kept L 13 l (omega arith) (omega arith), slot-kept L 14 l (omega arith) (omega arith))
 
--- the same of the cells and masks that were read, `got` and `odds`: with a place captured, and with vd 4 or more, where none is
+-- the same of the cells and masks that were read, `got` and `odds`
 module _ (image x dst got odds : List ℕ) (a vd m : ℕ) (h : vd < 8) (small : (k : ℕ) → getD dst k 0 < 65536) (eo : odds ≡ oddIn image a)
     (eg : got ≡ row (λ L. cellOf dst (64 * (a / 4)) (oddAt image a L) L))
     (p : x ≡ storing image (λ L. loadedOnly vd m (getD got L 0 % 65536) (laneIn image L))) where
@@ -210,12 +217,57 @@ module _ (image x dst got odds : List ℕ) (a vd m : ℕ) (h : vd < 8) (small : 
       load-both image x vd m (λ L. getD got L 0 % 65536) h p y (λ L. 64 * (a / 4) + 2 * L + getD odds L 0 % 2) q
       ∙ storing-same image _ _ (λ L l. cc (cell-read L l, place-read L l))
 
-  pub uncaptured : 4 ≤ vd → x ≡ storing image (loadedAt image dst a vd m)
-  unfolding loadedAt loadedOnly loadWith
-  uncaptured k = p ∙ storing-same image _ _ (λ L l. cc (cell-read L l, sym (none L (laneIn image L laneConfig))))
+  -- and the stores that are counted, of captured places and of words
+  pub load-counted : (before between counts : List ℕ) → between ≡ counted before (times 1 (isCaught vd x))
+      → counts ≡ counted between (times 1 (λ L. isOpen (laneIn image L)))
+      → counts ≡ counted before (λ L. registerStores (loadedAt image dst a vd m L))
+  unfolding loadedAt
+  load-counted before between counts e k =
+      k ∙ ap (λ (y : List ℕ). counted y (times 1 (λ L. isOpen (laneIn image L)))) e
+      ∙ counted-twice before (times 1 (isCaught vd x)) (times 1 (λ L. isOpen (laneIn image L)))
+      ∙ counted-same before _ _
+      (λ L l.
+      ap (λ (t : Bool). 1 * flagOf t + 1 * flagOf (isOpen (laneIn image L))) (sym (caught-kept image x vd m (λ L. getD got L 0 % 65536) h p L l))
+      ∙ both (isOpen (laneIn image L)) (captures vd (laneIn image L laneConfig))
+      ∙ ap (λ (t : Bool). pick t (1 + flagOf (captures vd (laneIn image L laneConfig))) 0) (loads-is vd (laneIn image L) h)
+      ∙ sym (load-count vd m _ _ (laneIn image L)))
     where
-      none : (L config : ℕ) → pick {X = Stores} (captures vd config) ((vd + 4, placeOf a L (oddAt image a L)) ∷ []) [] ≡ []
-      none L config = pick-false (captures vd config) _ [] (ap (λ (b : Bool). b && (bit config 2 && bit config 3)) (le-ltb vd 4 k))
+      turn : (n : ℕ) → 1 * n + 1 * 1 ≡ 1 + n
+      turn n = omega arith
+
+      both : (o c : Bool) → 1 * flagOf (o && c) + 1 * flagOf o ≡ pick o (1 + flagOf c) 0
+      both true c = ap (λ (n : ℕ). 1 * flagOf c + 1 * n) flag-true ∙ turn (flagOf c) ∙ sym (pick-true true (1 + flagOf c) 0 refl)
+      both false c = ap (λ (n : ℕ). 1 * n + 1 * n) flag-false ∙ sym (pick-false false (1 + flagOf c) 0 refl)
+
+-- the rows of masks, and room for the second count
+pub open-marks : (image opens : List ℕ) → opens ≡ openIn image → MarksAt 0 (λ L. isOpen (laneIn image L)) opens
+unfolding openIn
+open-marks image opens e = row-marks opens (λ L. isOpen (laneIn image L)) (operand opens (λ L. full (isOpen (laneIn image L))) e)
+
+pub caught-marks : (vd : ℕ) (image caught : List ℕ) → caught ≡ caughtIn vd image → MarksAt 0 (isCaught vd image) caught
+unfolding caughtIn
+caught-marks vd image caught e = row-marks caught (isCaught vd image) (operand caught (λ L. full (isCaught vd image L)) e)
+
+pub room-caught : (vd : ℕ) (image before counts : List ℕ) → Room 24 before → counts ≡ counted before (times 1 (isCaught vd image)) → Room 4 counts
+room-caught vd image before counts r e = room-after 24 4 4 before counts (times 1 (isCaught vd image)) (omega arith) r (times-few 1 (isCaught vd image)) e
+
+-- with vd 4 or more nothing is captured
+none-caught : (vd config : ℕ) (t : Bool) → 4 ≤ vd → (t && captures vd config) ≡ false
+none-caught vd config t h = and-none t (captures vd config) (ap (λ (b : Bool). b && (bit config 2 && bit config 3)) (le-ltb vd 4 h))
+  where
+    and-none : (s t : Bool) → t ≡ false → (s && t) ≡ false
+    and-none true t e = e
+    and-none false t e = refl
+
+pub uncaptured : (image : List ℕ) (vd : ℕ) (place : ℕ → ℕ) → length image ≡ 768 → 4 ≤ vd → image ≡ storing image (λ L. capturedOnly vd (place L) (laneIn image L))
+unfolding capturedOnly
+uncaptured image vd place e h =
+    sym (storing-none image _ e (λ L l. pick-false _ ((vd + 4, place L) ∷ []) [] (none-caught vd (laneIn image L laneConfig) (loads vd (laneIn image L)) h)))
+
+pub none-counted : (image stores : List ℕ) (vd : ℕ) → length stores ≡ 8 → 4 ≤ vd → stores ≡ counted stores (times 1 (isCaught vd image))
+none-counted image stores vd e h =
+    counted-none stores _ e
+    (λ L l. ap (λ (t : Bool). 1 * flagOf t) (none-caught vd (laneIn image L laneConfig) (isOpen (laneIn image L)) h) ∙ ap (λ (n : ℕ). 1 * n) flag-false)
 
 -- ---- nothing is stored at vd 8 or more
 

@@ -1,4 +1,4 @@
--- LUT: rows of floats, rows of words with their slots, and the stores by rows, which are in each lane those of the rule. Assumes nothing.
+-- LUT: rows of floats, rows of words with their slots and masks, and the stores by rows, which are in each lane those of the rule. Assumes nothing.
 use mathlib.Core.Path.{_≡_, refl, sym, ap, _∙_}
 use Prim.Native.Nat.{ℕ, _+_, _%_, _<_, _≤_}
 use native.Mathlib.Omega.{arith}
@@ -13,14 +13,15 @@ use borrow.Author.Tests.{lt-ltb, ltb-true}
 use Rattle.lane.specs.declared.Insn.{Insn}
 use Rattle.lane.specs.declared.LutAnswer.{LutAnswer}
 use Rattle.lane.specs.declared.LutAnswer.the-variants.{Number, Nothing}
-use Rattle.lane.specs.Words.{pick, has, bit, Lane, Stores, upd, after, enabled}
+use Rattle.lane.specs.Words.{pick, has, bit, flagOf, Lane, Stores, upd, after, enabled, registerStores}
 use Rattle.lane.specs.Swap.{acts}
 use Rattle.lane.specs.Lut.{lutAnswer, lutStores, lutRegister, lutWith, lut}
 use Rattle.lane.proofs.Cases.{pick-true, pick-false}
+use Rattle.lane.proofs.Counted.{lut-count}
 use Rattle.lane.proofs.Stores.{upd-same, upd-other}
 use Rattle.runner.specs.Image.{laneIn}
 use Rattle.runner.specs.PrivateRows.{storing, storingIn, full}
-use Rattle.runner.specs.PrivateLut.{isSet, resultIn, answered, storedWord, storedSlot, Answers}
+use Rattle.runner.specs.PrivateLut.{isSet, resultIn, answered, storedWord, storedSlot, isMade, Answers}
 use Rattle.runner.proofs.Lanes.{same-lanes}
 use Rattle.runner.proofs.Filled.{none-below}
 
@@ -43,35 +44,52 @@ floats-more f n xs v l h e =
         ap (λ (j : ℕ). getD (set xs n v) j nan) q ∙ getD-set-same xs n v nan (omega (arith, h .long)) ∙ e ∙ ap f (sym q)
     at k m (no q) = getD-set-other xs n k v nan q ∙ h .made k (omega arith)
 
--- ---- a row of words and a row of slots that a loop fills
+-- ---- a row of words, a row of slots and a row of masks that a loop fills
 
 pub record Laid (made : ℕ → Stores) (old : ℕ → ℕ) (n : ℕ) (xs : List ℕ) : Type 0 where
   pub within : n ≤ 32
-  pub long : length xs ≡ 64
+  pub long : length xs ≡ 96
   pub answers : Answers made old n xs
 
-pub laid-start : (made : ℕ → Stores) (old : ℕ → ℕ) (xs : List ℕ) → length xs ≡ 64 → Laid made old 0 xs
+pub laid-start : (made : ℕ → Stores) (old : ℕ → ℕ) (xs : List ℕ) → length xs ≡ 96 → Laid made old 0 xs
 laid-start made old xs e = record { within = omega arith; long = e; answers = λ k l. absurd (none-below k l) }
 
-pub laid-more : (made : ℕ → Stores) (old : ℕ → ℕ) (n : ℕ) (xs : List ℕ) (v s : ℕ) → n < 32 → Laid made old n xs
-    → v ≡ storedWord (made n) (old n) → s ≡ storedSlot (made n) → Laid made old (n + 1) (set (set xs n v) (32 + n) s)
-laid-more made old n xs v s l h ev es =
-    record { within = omega arith; long = simp length-set (h .long); answers = λ k m. (word k m (ℕ-discrete k n), slot k m (ℕ-discrete k n)) }
+pub laid-more : (made : ℕ → Stores) (old : ℕ → ℕ) (n : ℕ) (xs : List ℕ) (v s m : ℕ) → n < 32 → Laid made old n xs
+    → v ≡ storedWord (made n) (old n) → s ≡ storedSlot (made n) → m ≡ full (isMade (made n))
+    → Laid made old (n + 1) (set (set (set xs n v) (32 + n) s) (64 + n) m)
+laid-more made old n xs v s m l h ev es em =
+    record {
+      within = omega arith;
+      long = simp length-set (h .long);
+      answers = λ k j. (word k j (ℕ-discrete k n), (slot k j (ℕ-discrete k n), mark k j (ℕ-discrete k n)));
+    }
   where
-    word : (k : ℕ) → k < n + 1 → Dec (k ≡ n) → getD (set (set xs n v) (32 + n) s) k 0 ≡ storedWord (made k) (old k)
-    word k m (yes q) =
-        getD-set-other (set xs n v) (32 + n) k s 0 (λ z. omega arith) ∙ ap (λ (j : ℕ). getD (set xs n v) j 0) q
-        ∙ getD-set-same xs n v 0 (omega (arith, h .long)) ∙ ev ∙ ap (λ (j : ℕ). storedWord (made j) (old j)) (sym q)
-    word k m (no q) =
-        getD-set-other (set xs n v) (32 + n) k s 0 (λ z. omega arith) ∙ getD-set-other xs n k v 0 q ∙ h .answers k (omega arith) .0
+    two : List ℕ
+    two = set (set xs n v) (32 + n) s
 
-    slot : (k : ℕ) → k < n + 1 → Dec (k ≡ n) → getD (set (set xs n v) (32 + n) s) (32 + k) 0 ≡ storedSlot (made k)
-    slot k m (yes q) =
-        ap (λ (j : ℕ). getD (set (set xs n v) (32 + n) s) (32 + j) 0) q
+    word : (k : ℕ) → k < n + 1 → Dec (k ≡ n) → getD (set two (64 + n) m) k 0 ≡ storedWord (made k) (old k)
+    word k j (yes q) =
+        getD-set-other two (64 + n) k m 0 (λ z. omega arith) ∙ getD-set-other (set xs n v) (32 + n) k s 0 (λ z. omega arith)
+        ∙ ap (λ (j : ℕ). getD (set xs n v) j 0) q ∙ getD-set-same xs n v 0 (omega (arith, h .long)) ∙ ev ∙ ap (λ (j : ℕ). storedWord (made j) (old j)) (sym q)
+    word k j (no q) =
+        getD-set-other two (64 + n) k m 0 (λ z. omega arith) ∙ getD-set-other (set xs n v) (32 + n) k s 0 (λ z. omega arith) ∙ getD-set-other xs n k v 0 q
+        ∙ h .answers k (omega arith) .0
+
+    slot : (k : ℕ) → k < n + 1 → Dec (k ≡ n) → getD (set two (64 + n) m) (32 + k) 0 ≡ storedSlot (made k)
+    slot k j (yes q) =
+        getD-set-other two (64 + n) (32 + k) m 0 (λ z. omega arith) ∙ ap (λ (j : ℕ). getD two (32 + j) 0) q
         ∙ getD-set-same (set xs n v) (32 + n) s 0 (simp length-set (omega (arith, h .long))) ∙ es ∙ ap (λ (j : ℕ). storedSlot (made j)) (sym q)
-    slot k m (no q) =
-        getD-set-other (set xs n v) (32 + n) (32 + k) s 0 (λ z. q (omega arith)) ∙ getD-set-other xs n (32 + k) v 0 (λ z. omega arith)
-        ∙ h .answers k (omega arith) .1
+    slot k j (no q) =
+        getD-set-other two (64 + n) (32 + k) m 0 (λ z. omega arith) ∙ getD-set-other (set xs n v) (32 + n) (32 + k) s 0 (λ z. q (omega arith))
+        ∙ getD-set-other xs n (32 + k) v 0 (λ z. omega arith) ∙ h .answers k (omega arith) .1 .0
+
+    mark : (k : ℕ) → k < n + 1 → Dec (k ≡ n) → getD (set two (64 + n) m) (64 + k) 0 ≡ full (isMade (made k))
+    mark k j (yes q) =
+        ap (λ (j : ℕ). getD (set two (64 + n) m) (64 + j) 0) q ∙ getD-set-same two (64 + n) m 0 (simp length-set (omega (arith, h .long))) ∙ em
+        ∙ ap (λ (j : ℕ). full (isMade (made j))) (sym q)
+    mark k j (no q) =
+        getD-set-other two (64 + n) (64 + k) m 0 (λ z. q (omega arith)) ∙ getD-set-other (set xs n v) (32 + n) (64 + k) s 0 (λ z. omega arith)
+        ∙ getD-set-other xs n (64 + k) v 0 (λ z. omega arith) ∙ h .answers k (omega arith) .1 .1
 
 -- ---- masks
 
@@ -154,6 +172,41 @@ module _ (i : Insn) (own : Lane) (s r3 old : ℕ) (x : Float) (e3 : r3 ≡ own 3
       (direct-again (i .md) (own 3) (i .vd) (resultIn own) (enabled own && ltb (i .vd) 8) own s
       ∙ ap (λ (b : Bool). after (lutStores (i .md) (own 3) (pick (((b || has (own 12) 16) && enabled own) && ltb (i .vd) 8) (Number (resultIn own) (i .vd)) Nothing)) own s) (sym (lt-ltb (i .vd) 12 (omega arith)))
       ∙ ap (λ (r : ℕ). after (lutStores (i .md) (own 3) (lutAnswer (acts (i .vd) own) r (resultIn own))) own s) (sym (pick-false (has (i .md) 8) (own 7 % 16) (i .vd) h)))
+
+-- ---- the stores that are counted are those of the rule
+
+made-is : (m r3 : ℕ) (acting : Bool) (r : ℕ) (x : Float) → isMade (answered m r3 acting r x) ≡ (acting && ltb r 8)
+unfolding lutAnswer pick
+made-is m r3 acting r x = at (acting && ltb r 8)
+  where
+    at : (b : Bool) → isMade (lutStores m r3 (pick b (Number x r) Nothing)) ≡ b
+    at true = refl
+    at false = refl
+
+lut-stores : (i : Insn) (own : Lane) → registerStores (lut i own) ≡ flagOf (acts (i .vd) own && ltb (lutRegister (i .md) (i .vd) (own 7)) 8)
+unfolding lut lutWith
+lut-stores i own = lut-count (i .md) (own 3) (lutRegister (i .md) (i .vd) (own 7)) (acts (i .vd) own) (resultIn own)
+
+pub named-count : (i : Insn) (own : Lane) (r3 : ℕ) (x : Float) → has (i .md) 8 ≡ true
+    → flagOf (isMade (answered (i .md) r3 (acts (i .vd) own) (own 7 % 16) x)) ≡ registerStores (lut i own)
+unfolding lutRegister
+named-count i own r3 x h =
+    ap flagOf (made-is (i .md) r3 (acts (i .vd) own) (own 7 % 16) x)
+    ∙ ap (λ (r : ℕ). flagOf (acts (i .vd) own && ltb r 8)) (sym (pick-true (has (i .md) 8) (own 7 % 16) (i .vd) h))
+    ∙ sym (lut-stores i own)
+
+pub direct-count : (i : Insn) (own : Lane) → has (i .md) 8 ≡ false → i .vd < 8 → flagOf (enabled own) ≡ registerStores (lut i own)
+unfolding lutRegister
+direct-count i own h l =
+    ap flagOf (both (enabled own))
+    ∙ ap (λ (t : Bool). flagOf (((t || has (own 12) 16) && enabled own) && true)) (sym (lt-ltb (i .vd) 12 (omega arith)))
+    ∙ ap (λ (t : Bool). flagOf (acts (i .vd) own && t)) (sym (lt-ltb (i .vd) 8 l))
+    ∙ ap (λ (r : ℕ). flagOf (acts (i .vd) own && ltb r 8)) (sym (pick-false (has (i .md) 8) (own 7 % 16) (i .vd) h))
+    ∙ sym (lut-stores i own)
+  where
+    both : (t : Bool) → t ≡ (t && true)
+    both true = refl
+    both false = refl
 
 -- neither, so nothing is stored
 pub no-lut : (i : Insn) (own : Lane) → (has (i .md) 8 || ltb (i .vd) 8) ≡ false → lut i own ≡ []

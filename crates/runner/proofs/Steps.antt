@@ -6,36 +6,36 @@ use native.Mathlib.Omega.{arith}
 use mathlib.Core.Bool.{Bool, true, false, _||_, false≢true}
 use mathlib.Core.List.{List, []}
 use lib.ListN.{length}
-use lib.Dec.{eqb}
+use lib.Dec.{eqb, ltb}
 use borrow.Author.Tests.{eq-eqb, ne-eqb, eqb-true, eqb-false}
 use Rattle.lane.specs.declared.Settings.{Settings}
 use Rattle.lane.specs.declared.Insn.{Insn}
-use Rattle.lane.specs.Words.{pick, bit, Lane, Stores, build}
+use Rattle.lane.specs.Words.{pick, bit, flagOf, Lane, Stores, build, registerStores}
 use Rattle.lane.specs.Load.{address, nextCursor, meetsDst, load}
 use Rattle.lane.specs.Store.{store}
-use Rattle.lane.specs.Compute.{valueWord, valuedWith, valued}
+use Rattle.lane.specs.Compute.{computes, valueWord, valuedWith, valued}
 use Rattle.lane.specs.Rule.{lanewise, storesOf, cellsOf}
 use Rattle.lane.proofs.Cases.{pick-true, pick-false}
 use Rattle.lane.proofs.Stores.{length-build}
+use Rattle.lane.proofs.Counted.{none-count}
 use Rattle.runner.specs.declared.Found.{Found}
 use Rattle.runner.specs.declared.Outcome.{Outcome}
 use Rattle.runner.specs.Image.{laneIn}
 use Rattle.runner.specs.Checks.{insnAt, countOf, listLimit, runAnswer}
-use Rattle.runner.specs.Run.{Machine, evenCell, oddCell, withCells, cellsAfter, laneAfter, imageAt, imageAfter, dstAt, dstAfter, cursorAfter, stepped, steps, begin, finish, tieIn, tiesAfter, noTies, whenDone, whenRefused, outcomeOf, runImage, runDst, Ran}
-use Rattle.runner.specs.PrivateRows.{storing, Enabled}
-use Rattle.runner.specs.PrivateSteps.{counted, Stored, Met, Left, starting, Through}
+use Rattle.runner.specs.Run.{Machine, evenCell, oddCell, withCells, cellsAfter, laneAfter, imageAt, imageAfter, dstAt, dstAfter, cursorAfter, stepped, steps, begin, finish, storesAt, storesIn, tieIn, tiesBy, storesBy, countAfter, noCounts, whenDone, whenRefused, outcomeOf, runImage, runDst, Ran}
+use Rattle.runner.specs.PrivateRows.{storing, MarksAt, Enabled}
+use Rattle.runner.specs.declared.Onward.{Onward}
+use Rattle.runner.specs.PrivateCompute.{setsFlags}
+use Rattle.runner.specs.PrivateSteps.{counted, times, enabledIn, withOwed, Tallied, IsNoted, Noted, Flagged, Stored, Met, Left, starting, Through}
 use Rattle.runner.proofs.Accepted.{accepted, given-short}
 use Rattle.runner.proofs.Enabled.{Quiet, quiet-enabled}
 use Rattle.runner.proofs.Quiet.{quiet-load}
 use Rattle.runner.proofs.Lanes.{storing-same, storing-none, length-lanes}
-use Rattle.runner.proofs.Counts.{no-ties, ties-more}
+use Rattle.runner.proofs.Counts.{no-ties, counts-start, counts-more}
+use Rattle.runner.proofs.Tallied.{times-none, counted-itself, noted, settled, nothing-made, tallied-same}
 use Rattle.runner.proofs.Dsts.{length-cells, cells-same, dst-kept}
 
 -- ---- one instruction
-
--- the stores of every lane, at address a
-abbrev pub storesAt : Settings → Insn → ℕ → List ℕ → List ℕ → ℕ → Stores
-storesAt s i a image dst L = storesOf (i .op) s a i L (laneIn image (L % 8)) (evenCell dst a L) (oddCell dst a L) (laneIn image L)
 
 image-at-is : (s : Settings) (i : Insn) (a : ℕ) (image dst : List ℕ) → storing image (storesAt s i a image dst) ≡ imageAt s i a image dst
 unfolding imageAt laneAfter storing
@@ -51,81 +51,172 @@ neither : (s t : Bool) → (s || t) ≡ false → (s ≡ false) × (t ≡ false)
 neither true t h = absurd (false≢true (sym h))
 neither false t h = (refl, h)
 
-pub meets-not : (op : ℕ) → meetsDst op ≡ false → (eqb op 1 ≡ false) × (eqb op 16 ≡ false)
+meets-not : (op : ℕ) → meetsDst op ≡ false → (eqb op 1 ≡ false) × (eqb op 16 ≡ false)
 meets-not op h = neither (eqb op 1) (eqb op 16) h
 
--- an operation's image is the instruction's if its stores are, and the row of enabled lanes and the ties go with it
-pub stored-arm : (s : Settings) (i : Insn) (image x go ties tallied : List ℕ) (made : ℕ → Stores) → tallied ≡ counted ties (tieIn i image) → Enabled go x
-    → x ≡ storing image made
-    → ((a : ℕ) (dst : List ℕ) (L : ℕ) → made L ≡ storesAt s i a image dst L)
-    → Stored s i image x go ties tallied
-stored-arm s i image x go ties tallied made t g p h =
+-- a count of an operation's stores is the instruction's
+stores-of : (s : Settings) (i : Insn) (a : ℕ) (image dst after : List ℕ) (made : ℕ → Stores) (owed : ℕ) (stores : List ℕ) (due : ℕ) (stores′ : List ℕ)
+    → ((L : ℕ) → made L ≡ storesAt s i a image dst L)
+    → Tallied image after (λ L. registerStores (made L)) owed stores due stores′
+    → Tallied image after (storesIn s i a image dst) owed stores due stores′
+stores-of s i a image dst after made owed stores due stores′ h t =
+    tallied-same image after (λ L. registerStores (made L)) (storesIn s i a image dst) owed stores due stores′ (λ L. ap registerStores (h L)) t
+
+-- an operation's image is the instruction's if its stores are
+module _ (i : Insn) (image x go : List ℕ) (made : ℕ → Stores) (p : x ≡ storing image made) where
+  image-of : ((s : Settings) (a : ℕ) (dst : List ℕ) (L : ℕ) → made L ≡ storesAt s i a image dst L) → (s : Settings) (a : ℕ) (dst : List ℕ) → x ≡ imageAt s i a image dst
+  image-of h s a dst = p ∙ storing-same image made (storesAt s i a image dst) (λ L l. h s a dst L) ∙ image-at-is s i a image dst
+
+  -- one that sets flags
+  pub flagged-arm : Enabled go x → ((s : Settings) (a : ℕ) (dst : List ℕ) (L : ℕ) → made L ≡ storesAt s i a image dst L) → Flagged i image x go
+  flagged-arm g h = record { image-is = image-of h; enabled-is = g }
+
+  -- one that leaves them, and stores once in each lane that is enabled, for vd below 8
+  pub noted-arm : Enabled go image → ((L : ℕ) → Quiet (made L)) → ((L : ℕ) → registerStores (made L) ≡ flagOf (computes (i .vd) (laneIn image L)))
+      → ((s : Settings) (a : ℕ) (dst : List ℕ) (L : ℕ) → made L ≡ storesAt s i a image dst L)
+      → Noted i image x go
+  noted-arm g q c h =
+      record {
+        image-is = image-of h;
+        enabled-is = quiet-enabled go image x made (λ L l. q L) g p;
+        stores-are =
+            λ s a dst owed stores l. stores-of s i a image dst x made owed stores _ stores (h s a dst) (noted image x made owed stores p (i .vd) _ l q c refl);
+      }
+
+  -- one that leaves them, and counts its stores
+  pub counted-arm : (s : Settings) (ties ties′ : List ℕ) (owed : ℕ) (stores stores′ : List ℕ) → ties′ ≡ counted ties (tieIn i image) → Enabled go x
+      → ((L : ℕ) → Quiet (made L))
+      → stores′ ≡ counted stores (λ L. registerStores (made L))
+      → ((a : ℕ) (dst : List ℕ) (L : ℕ) → made L ≡ storesAt s i a image dst L)
+      → Stored s i image x go ties ties′ owed stores owed stores′
+  counted-arm s ties ties′ owed stores stores′ t g q u h =
+      record {
+        image-is = λ a dst. p ∙ storing-same image made (storesAt s i a image dst) (λ L l. h a dst L) ∙ image-at-is s i a image dst;
+        enabled-is = g;
+        ties-is = t;
+        stores-are = λ a dst. stores-of s i a image dst x made owed stores owed stores′ (h a dst) (counted-itself image x made owed stores p stores′ q u);
+      }
+
+-- one whose stores are owed compares nothing
+pub noted-stored : (s : Settings) (i : Insn) (image x go ties : List ℕ) (owed : ℕ) (stores : List ℕ) (once : ℕ) → length ties ≡ 8 → length stores ≡ 8 → (i .op ≡ 4 → ⊥)
+    → once ≡ flagOf (ltb (i .vd) 8)
+    → Noted i image x go
+    → Stored s i image x go ties ties owed stores (owed + once) stores
+noted-stored s i image x go ties owed stores once l m o e n =
     record {
-      image-is = λ a dst. p ∙ storing-same image made (storesAt s i a image dst) (λ L l. h a dst L) ∙ image-at-is s i a image dst;
-      enabled-is = g;
-      ties-is = t;
+      image-is = n .image-is s;
+      enabled-is = n .enabled-is;
+      ties-is = no-ties i image ties l o;
+      stores-are = λ a dst. rw e (n .stores-are s a dst owed stores m);
     }
 
--- an operation that leaves the flags
-pub quiet-arm : (s : Settings) (i : Insn) (image x go ties tallied : List ℕ) (made : ℕ → Stores) → tallied ≡ counted ties (tieIn i image) → Enabled go image
-    → x ≡ storing image made
-    → ((L : ℕ) → Quiet (made L))
-    → ((a : ℕ) (dst : List ℕ) (L : ℕ) → made L ≡ storesAt s i a image dst L)
-    → Stored s i image x go ties tallied
-quiet-arm s i image x go ties tallied made t g p q h =
-    stored-arm s i image x go ties tallied made t (quiet-enabled go image x made (λ L l. q L) g p) p h
-
 -- one that stores nothing
-pub no-arm : (s : Settings) (i : Insn) (image go ties tallied : List ℕ) → tallied ≡ counted ties (tieIn i image) → length image ≡ 768 → Enabled go image
+pub no-arm : (s : Settings) (i : Insn) (image go ties : List ℕ) (owed : ℕ) (stores : List ℕ) → length image ≡ 768 → length ties ≡ 8 → length stores ≡ 8
+    → (i .op ≡ 4 → ⊥)
+    → Enabled go image
     → ((a : ℕ) (dst : List ℕ) (L : ℕ) → [] ≡ storesAt s i a image dst L)
-    → Stored s i image image go ties tallied
-no-arm s i image go ties tallied t e g h =
-    stored-arm s i image image go ties tallied (λ L. []) t g (sym (storing-none image (λ L. []) e (λ L l. refl))) h
+    → Stored s i image image go ties ties owed stores owed stores
+no-arm s i image go ties owed stores e l m o g h =
+    record {
+      image-is = λ a dst. sym (storing-none image (storesAt s i a image dst) e (λ L k. sym (h a dst L))) ∙ image-at-is s i a image dst;
+      enabled-is = g;
+      ties-is = no-ties i image ties l o;
+      stores-are = λ a dst. stores-of s i a image dst image (λ L. []) owed stores owed stores (h a dst) (nothing-made image _ owed stores m (λ L. none-count));
+    }
 
 -- EXMAN's word is that of every op which has no other
-pub valued-rest : (op : ℕ) (i : Insn) (L : ℕ) (own : Lane) → (op ≡ 7 → ⊥) → (op ≡ 8 → ⊥) → (op ≡ 9 → ⊥) → (op ≡ 10 → ⊥) → (op ≡ 11 → ⊥)
+valued-rest : (op : ℕ) (i : Insn) (L : ℕ) (own : Lane) → (op ≡ 7 → ⊥) → (op ≡ 8 → ⊥) → (op ≡ 9 → ⊥) → (op ≡ 10 → ⊥) → (op ≡ 11 → ⊥)
     → valued 14 i L own ≡ valued op i L own
 unfolding valued valuedWith valueWord pick
 valued-rest op i L own a b c d e = simp (ne-eqb op 7 a, ne-eqb op 8 b, ne-eqb op 9 c, ne-eqb op 10 d, ne-eqb op 11 e)
 
+-- and it is the last of the noted operations
+pub noted-rest : (op : ℕ) (s : Settings) (a : ℕ) (i : Insn) (L : ℕ) (head : Lane) (even odd : ℕ) (own : Lane) → IsNoted op → (op ≡ 2 → ⊥) → (op ≡ 7 → ⊥) → (op ≡ 8 → ⊥)
+    → (op ≡ 9 → ⊥)
+    → (op ≡ 10 → ⊥)
+    → (op ≡ 11 → ⊥)
+    → valued 14 i L own ≡ storesOf op s a i L head even odd own
+unfolding storesOf lanewise pick
+noted-rest op s a i L head even odd own n e2 e7 e8 e9 e10 e11 =
+    let m = meets-not op (n .meets-no-dst) in
+    let f = neither (eqb op 6) _ (n .sets-no-flags) in
+    let g = neither (eqb op 12) (eqb op 13) (f .1) in
+    simp (n .no-config, m .0, ne-eqb op 2 e2, n .no-lut, n .no-swap, f .0, g .0, g .1, n .no-nop, m .1) (valued-rest op i L own e7 e8 e9 e10 e11)
+
+-- the last of those that set flags
+pub flagged-op : (op : ℕ) → setsFlags op ≡ true → (op ≡ 6 → ⊥) → (op ≡ 12 → ⊥) → op ≡ 13
+flagged-op op h a b = eqb-true op 13 (sym (ap (λ (t : Bool). t || (eqb op 12 || eqb op 13)) (ne-eqb op 6 a) ∙ ap (λ (t : Bool). t || eqb op 13) (ne-eqb op 12 b)) ∙ h)
+
 -- an instruction that does not meet Dst leaves the cursor, and Dst
-pub stored-left : (s : Settings) (i : Insn) (cursor : ℕ) (image dst x go ties tallied : List ℕ) → meetsDst (i .op) ≡ false → length dst ≡ 16384
-    → Stored s i image x go ties tallied
-    → Left s i cursor image dst ties cursor x dst go tallied
+pub stored-left : (s : Settings) (i : Insn) (cursor : ℕ) (image dst x go ties ties′ : List ℕ) (owed : ℕ) (stores : List ℕ) (due : ℕ) (stores′ : List ℕ)
+    → meetsDst (i .op) ≡ false
+    → length dst ≡ 16384
+    → Stored s i image x go ties ties′ owed stores due stores′
+    → Left s i cursor image dst ties owed stores (record { cursor = cursor; owed = due }) x dst go ties′ stores′
 unfolding imageAfter dstAfter nextCursor
-stored-left s i cursor image dst x go ties tallied n e h =
+stored-left s i cursor image dst x go ties ties′ owed stores due stores′ n e h =
     record {
       cursor-is = sym (pick-false (meetsDst (i .op)) _ cursor n);
       image-is = h .image-is (address (i .imm) (s .offset) cursor) dst;
       dst-is = dst-kept i (address (i .imm) (s .offset) cursor) image dst (eqb-false (i .op) 16 (meets-not (i .op) n .1)) e;
       enabled-is = h .enabled-is;
       ties-is = h .ties-is;
+      stores-are = h .stores-are (address (i .imm) (s .offset) cursor) dst;
+    }
+
+-- so does one that sets flags
+pub flagged-left : (s : Settings) (i : Insn) (cursor : ℕ) (image dst x before go ties : List ℕ) (owed : ℕ) (stores stores′ : List ℕ) → meetsDst (i .op) ≡ false
+    → setsFlags (i .op) ≡ true
+    → length dst ≡ 16384
+    → length ties ≡ 8
+    → Enabled before image
+    → ((e : ℕ → Bool) → MarksAt 0 e before → stores′ ≡ counted stores (times (owed + flagOf (ltb (i .vd) 8)) e))
+    → Flagged i image x go
+    → Left s i cursor image dst ties owed stores (record { cursor = cursor; owed = 0 }) x dst go ties stores′
+unfolding imageAfter dstAfter nextCursor
+flagged-left s i cursor image dst x before go ties owed stores stores′ n f e l g k h =
+    let a = address (i .imm) (s .offset) cursor in
+    record {
+      cursor-is = sym (pick-false (meetsDst (i .op)) _ cursor n);
+      image-is = h .image-is s a dst;
+      dst-is = dst-kept i a image dst (eqb-false (i .op) 16 (meets-not (i .op) n .1)) e;
+      enabled-is = h .enabled-is;
+      ties-is = no-ties i image ties l (λ o. false≢true (ap setsFlags (sym o) ∙ f));
+      stores-are = settled s i a image dst x before owed stores stores′ f g k;
     }
 
 -- one that meets it does so at the address that the cursor gives, and compares nothing
-pub met-left : (s : Settings) (i : Insn) (cursor a next : ℕ) (image dst x y go ties : List ℕ) → meetsDst (i .op) ≡ true → length ties ≡ 8
+pub met-left : (s : Settings) (i : Insn) (cursor a next : ℕ) (image dst x y go ties : List ℕ) (owed : ℕ) (stores stores′ : List ℕ) → meetsDst (i .op) ≡ true
+    → length ties ≡ 8
     → a ≡ address (i .imm) (s .offset) cursor
-    → next ≡ cursorAfter s i cursor → Met s i a image dst x y go
-    → Left s i cursor image dst ties next x y go ties
+    → next ≡ cursorAfter s i cursor → Met s i a image dst x y go owed stores stores′
+    → Left s i cursor image dst ties owed stores (record { cursor = next; owed = owed }) x y go ties stores′
 unfolding imageAfter dstAfter
-met-left s i cursor a next image dst x y go ties meets e ea en h =
+met-left s i cursor a next image dst x y go ties owed stores stores′ meets e ea en h =
     record {
       cursor-is = en;
       image-is = h .image-is ∙ ap (λ (x : ℕ). imageAt s i x image dst) ea;
       dst-is = h .dst-is ∙ ap (λ (x : ℕ). dstAt i x image dst) ea;
       enabled-is = h .enabled-is;
       ties-is = no-ties i image ties e (λ o. false≢true (ap meetsDst (sym o) ∙ meets));
+      stores-are =
+          tallied-same image x (storesIn s i a image dst) (storesIn s i (address (i .imm) (s .offset) cursor) image dst) owed stores owed stores′
+          (λ L. ap (λ (y : ℕ). storesIn s i y image dst L) ea) (h .stores-are);
     }
 
 -- LOAD leaves Dst
-pub load-met : (s : Settings) (i : Insn) (a : ℕ) (image dst x go : List ℕ) → i .op ≡ 1 → length dst ≡ 16384 → Enabled go image
+pub load-met : (s : Settings) (i : Insn) (a : ℕ) (image dst x go : List ℕ) (owed : ℕ) (stores stores′ : List ℕ) → i .op ≡ 1 → length dst ≡ 16384 → Enabled go image
     → x ≡ storing image (λ L. load (s .srcb) a i L (bit (laneIn image (L % 8) 12) 5) (evenCell dst a L) (oddCell dst a L) (laneIn image L))
-    → Met s i a image dst x dst go
-load-met s i a image dst x go o e g p =
+    → stores′ ≡ counted stores (λ L. registerStores (load (s .srcb) a i L (bit (laneIn image (L % 8) 12) 5) (evenCell dst a L) (oddCell dst a L) (laneIn image L)))
+    → Met s i a image dst x dst go owed stores stores′
+load-met s i a image dst x go owed stores stores′ o e g p k =
     record {
       image-is = p ∙ storing-same image _ (storesAt s i a image dst) (λ L l. is-load L) ∙ image-at-is s i a image dst;
       dst-is = dst-kept i a image dst (λ z. one-other (i .op) o z) e;
       enabled-is = quiet-enabled go image x _ (λ L l. quiet-load (s .srcb) a i L _ _ _ (laneIn image L)) g p;
+      stores-are =
+          stores-of s i a image dst x _ owed stores owed stores′ is-load
+          (counted-itself image x _ owed stores p stores′ (λ L. quiet-load (s .srcb) a i L _ _ _ (laneIn image L)) k);
     }
   where
     is-load : (L : ℕ)
@@ -149,11 +240,12 @@ store-cells op a i L exchanged even odd own e = sym (pick-true (eqb op 16) (stor
 is-store : (op : ℕ) → meetsDst op ≡ true → (op ≡ 1 → ⊥) → op ≡ 16
 is-store op h n = eqb-true op 16 (sym (ap (λ (t : Bool). t || eqb op 16) (ne-eqb op 1 n)) ∙ h)
 
-pub store-met : (s : Settings) (i : Insn) (a : ℕ) (image dst x go : List ℕ) → meetsDst (i .op) ≡ true → (i .op ≡ 1 → ⊥) → length image ≡ 768 → Enabled go image
+pub store-met : (s : Settings) (i : Insn) (a : ℕ) (image dst x go : List ℕ) (owed : ℕ) (stores : List ℕ) → meetsDst (i .op) ≡ true → (i .op ≡ 1 → ⊥) → length image ≡ 768 → Enabled go image
+    → length stores ≡ 8
     → x ≡ withCells a dst (λ L. store a i L (bit (laneIn image (L % 8) 12) 5) (evenCell dst a L) (oddCell dst a L) (laneIn image L))
-    → Met s i a image dst image x go
+    → Met s i a image dst image x go owed stores stores
 unfolding dstAt cellsAfter
-store-met s i a image dst x go meets n e g p =
+store-met s i a image dst x go owed stores meets n e g u p =
     let o = is-store (i .op) meets n in
     record {
       image-is =
@@ -161,6 +253,9 @@ store-met s i a image dst x go meets n e g p =
           ∙ image-at-is s i a image dst;
       dst-is = p ∙ cells-same a dst _ (cellsAfter i a image dst) (λ L l. store-cells (i .op) a i L _ _ _ (laneIn image L) o);
       enabled-is = g;
+      stores-are =
+          stores-of s i a image dst image (λ L. []) owed stores owed stores
+          (λ L. sym (store-none (i .op) s a i L _ _ _ (laneIn image L) o)) (nothing-made image _ owed stores u (λ L. none-count));
     }
 
 pub length-after : (s : Settings) (i : Insn) (cursor : ℕ) (image dst : List ℕ) → length (imageAfter s i cursor image dst) ≡ 768
@@ -174,54 +269,79 @@ length-dst-after s i cursor image dst =
 
 -- ---- the steps through a list
 
--- after k instructions
-pub record Reached (s : Settings) (list start-dst start : List ℕ) (first k cursor : ℕ) (image dst go ties : List ℕ) : Type 0 where
+-- after k instructions, the counters of stores lacking what is owed
+pub record Reached (s : Settings) (list start-dst start : List ℕ) (first k cursor : ℕ) (image dst go ties stores : List ℕ) (owed : ℕ) : Type 0 where
   pub cursor-is : cursor ≡ steps s list k (starting first start start-dst) .cursor
   pub image-is : image ≡ steps s list k (starting first start start-dst) .image
   pub dst-is : dst ≡ steps s list k (starting first start start-dst) .dst
   pub enabled-is : Enabled go image
-  pub ties-is : ties ≡ build 8 (tiesAfter s list k (starting first start start-dst))
+  pub ties-is : ties ≡ build 8 (countAfter tiesBy s list k (starting first start start-dst))
+  pub stores-is : withOwed owed stores image ≡ build 8 (countAfter (storesBy s) s list k (starting first start start-dst))
+  pub eight : length stores ≡ 8
+  pub few : owed ≤ k
   pub long : length image ≡ 768
   pub dst-long : length dst ≡ 16384
 
-pub reached-start : (s : Settings) (list dst start : List ℕ) (first : ℕ) (go ties : List ℕ) → length start ≡ 768 → length dst ≡ 16384 → Enabled go start
-    → ties ≡ build 8 (tiesAfter s list 0 (starting first start dst))
-    → Reached s list dst start first 0 first start dst go ties
+pub reached-start : (s : Settings) (list dst start : List ℕ) (first : ℕ) (go ties stores : List ℕ) → length start ≡ 768 → length dst ≡ 16384 → Enabled go start
+    → ties ≡ noCounts
+    → stores ≡ noCounts
+    → Reached s list dst start first 0 first start dst go ties stores 0
 unfolding steps
-reached-start s list dst start first go ties e f g t =
-    record { cursor-is = refl; image-is = refl; dst-is = refl; enabled-is = g; ties-is = t; long = e; dst-long = f }
-
-pub reached-more : (s : Settings) (list start-dst start : List ℕ) (first k cursor : ℕ) (image dst go ties : List ℕ) (i : Insn) (cursor′ : ℕ)
-    (image′ dst′ go′ ties′ : List ℕ)
-    → Reached s list start-dst start first k cursor image dst go ties
-    → i ≡ insnAt list k
-    → Left s i cursor image dst ties cursor′ image′ dst′ go′ ties′
-    → Reached s list start-dst start first (k + 1) cursor′ image′ dst′ go′ ties′
-unfolding steps stepped
-reached-more s list start-dst start first k cursor image dst go ties i cursor′ image′ dst′ go′ ties′ h e m =
-    let next = ap (λ (n : ℕ). steps s list n (starting first start start-dst)) (sym (add-one k)) in
+reached-start s list dst start first go ties stores e f g t u =
+    let eight = ap length u ∙ length-build 8 (λ c. 0) in
     record {
-      cursor-is = m .cursor-is ∙ cc (e, h .cursor-is) ∙ ap (λ (x : Machine). x .cursor) next;
-      image-is = m .image-is ∙ cc (e, h .cursor-is, h .image-is, h .dst-is) ∙ ap (λ (x : Machine). x .image) next;
-      dst-is = m .dst-is ∙ cc (e, h .cursor-is, h .image-is, h .dst-is) ∙ ap (λ (x : Machine). x .dst) next;
+      cursor-is = refl;
+      image-is = refl;
+      dst-is = refl;
+      enabled-is = g;
+      ties-is = t ∙ counts-start tiesBy s list (starting first start dst);
+      stores-is = sym (times-none stores (enabledIn start) eight) ∙ u ∙ counts-start (storesBy s) s list (starting first start dst);
+      eight = eight;
+      few = omega arith;
+      long = e;
+      dst-long = f;
+    }
+
+pub reached-more : (s : Settings) (list start-dst start : List ℕ) (first k cursor : ℕ) (image dst go ties stores : List ℕ) (owed : ℕ) (i : Insn) (next : Onward)
+    (image′ dst′ go′ ties′ stores′ : List ℕ)
+    → Reached s list start-dst start first k cursor image dst go ties stores owed
+    → i ≡ insnAt list k
+    → Left s i cursor image dst ties owed stores next image′ dst′ go′ ties′ stores′
+    → Reached s list start-dst start first (k + 1) (next .cursor) image′ dst′ go′ ties′ stores′ (next .owed)
+unfolding steps stepped
+reached-more s list start-dst start first k cursor image dst go ties stores owed i next image′ dst′ go′ ties′ stores′ h e m =
+    let all = ap (λ (n : ℕ). steps s list n (starting first start start-dst)) (sym (add-one k)) in
+    record {
+      cursor-is = m .cursor-is ∙ cc (e, h .cursor-is) ∙ ap (λ (x : Machine). x .cursor) all;
+      image-is = m .image-is ∙ cc (e, h .cursor-is, h .image-is, h .dst-is) ∙ ap (λ (x : Machine). x .image) all;
+      dst-is = m .dst-is ∙ cc (e, h .cursor-is, h .image-is, h .dst-is) ∙ ap (λ (x : Machine). x .dst) all;
       enabled-is = m .enabled-is;
-      ties-is = ties-more s list k (starting first start start-dst) i image ties ties′ (h .ties-is) e (h .image-is) (m .ties-is);
+      ties-is =
+          counts-more tiesBy s list k (starting first start start-dst) (tieIn i image) ties ties′ (h .ties-is) (λ L l. cc (e, h .image-is)) (m .ties-is);
+      stores-is =
+          counts-more (storesBy s) s list k (starting first start start-dst) (storesIn s i (address (i .imm) (s .offset) cursor) image dst)
+          (withOwed owed stores image) (withOwed (next .owed) stores′ image′) (h .stores-is) (λ L l. cc (e, h .cursor-is, h .image-is, h .dst-is))
+          (m .stores-are .sum-is);
+      eight = m .stores-are .eight;
+      few = omega (arith, m .stores-are .few, h .few);
       long = ap length (m .image-is) ∙ length-after s i cursor image dst;
       dst-long = ap length (m .dst-is) ∙ length-dst-after s i cursor image dst;
     }
 
--- at the end of the list
-pub reached-end : (s : Settings) (list start-dst start : List ℕ) (first k cursor : ℕ) (image dst go ties : List ℕ)
-    → Reached s list start-dst start first k cursor image dst go ties
+-- at the end of the list, what is owed counted
+pub reached-end : (s : Settings) (list start-dst start : List ℕ) (first k cursor : ℕ) (image dst go ties stores : List ℕ) (owed : ℕ) (tallied : List ℕ)
+    → Reached s list start-dst start first k cursor image dst go ties stores owed
     → k ≡ countOf list
-    → Through s first start start-dst list cursor image dst ties
-reached-end s list start-dst start first k cursor image dst go ties h e =
+    → tallied ≡ withOwed owed stores image
+    → Through s first start start-dst list cursor image dst ties tallied
+reached-end s list start-dst start first k cursor image dst go ties stores owed tallied h e t =
     let all = ap (λ (n : ℕ). steps s list n (starting first start start-dst)) e in
     record {
       cursor-is = h .cursor-is ∙ ap (λ (x : Machine). x .cursor) all;
       image-is = h .image-is ∙ ap (λ (x : Machine). x .image) all;
       dst-is = h .dst-is ∙ ap (λ (x : Machine). x .dst) all;
-      ties-is = h .ties-is ∙ ap (λ (n : ℕ). build 8 (tiesAfter s list n (starting first start start-dst))) e;
+      ties-is = h .ties-is ∙ ap (λ (n : ℕ). build 8 (countAfter tiesBy s list n (starting first start start-dst))) e;
+      stores-is = t ∙ h .stores-is ∙ ap (λ (n : ℕ). build 8 (countAfter (storesBy s) s list n (starting first start start-dst))) e;
     }
 
 -- ---- a run
@@ -238,37 +358,43 @@ module _ (s : Settings) (image dst list : List ℕ) (f : Found) (e : f ≡ runAn
       let a = accepted s image dst list (sym (ap (λ (x : Found). x .answer) e) ∙ h) .passed in (a .image-long, (a .dst-long, given-short s list (a .list-given)))
 
   -- done
-  pub ran-done : (cursor : ℕ) (x y ties : List ℕ) → f .answer ≡ 0 → Through s (s .cursor) image dst list cursor x y ties
-      → Ran s image dst list (record { answer = 0; steps = countOf list; place = 0; cursor = cursor; ties = ties }) x y
+  pub ran-done : (cursor : ℕ) (x y ties stores : List ℕ) → f .answer ≡ 0 → Through s (s .cursor) image dst list cursor x y ties stores
+      → Ran s image dst list (record { answer = 0; steps = countOf list; place = 0; cursor = cursor; ties = ties; stores = stores }) x y
   unfolding outcomeOf runImage runDst
-  ran-done cursor x y ties h t =
+  ran-done cursor x y ties stores h t =
       record {
         outcome-is =
-            cc (t .cursor-is, t .ties-is)
+            cc (t .cursor-is, t .ties-is, t .stores-is)
             ∙ sym (pick-true (eqb (runAnswer s image dst list .answer) 0) (whenDone s image dst list) _ (zero-is h));
         image-is = t .image-is ∙ sym (pick-true (eqb (runAnswer s image dst list .answer) 0) (finish s image dst list .image) image (zero-is h));
         dst-is = t .dst-is ∙ sym (pick-true (eqb (runAnswer s image dst list .answer) 0) (finish s image dst list .dst) dst (zero-is h));
       }
 
   -- refused
-  pub ran-refused : (ties : List ℕ) → ties ≡ noTies → (f .answer ≡ 0 → ⊥)
-      → Ran s image dst list (record { answer = f .answer; steps = 0; place = f .place; cursor = s .cursor; ties = ties }) image dst
+  pub ran-refused : (ties stores : List ℕ) → ties ≡ noCounts → stores ≡ noCounts → (f .answer ≡ 0 → ⊥)
+      → Ran s image dst list (record { answer = f .answer; steps = 0; place = f .place; cursor = s .cursor; ties = ties; stores = stores }) image dst
   unfolding outcomeOf runImage runDst
-  ran-refused ties t h =
+  ran-refused ties stores t u h =
       record {
         outcome-is =
-            ap (λ (x : List ℕ). record { answer = f .answer; steps = 0; place = f .place; cursor = s .cursor; ties = x }) t
+            cc (t, u)
             ∙ ap (whenRefused s) e
             ∙ sym (pick-false (eqb (runAnswer s image dst list .answer) 0) _ (whenRefused s (runAnswer s image dst list)) (other-is h));
         image-is = sym (pick-false (eqb (runAnswer s image dst list .answer) 0) (finish s image dst list .image) image (other-is h));
         dst-is = sym (pick-false (eqb (runAnswer s image dst list .answer) 0) (finish s image dst list .dst) dst (other-is h));
       }
 
--- there are eight counts, whatever a run answers
-pub eight-ties : (s : Settings) (image dst list : List ℕ) → length (outcomeOf s image dst list .ties) ≡ 8
+-- there are eight counts of each kind, whatever a run answers
+pub eight-counts : (s : Settings) (image dst list : List ℕ)
+    → (length (outcomeOf s image dst list .ties) ≡ 8) × (length (outcomeOf s image dst list .stores) ≡ 8)
 unfolding outcomeOf pick
-eight-ties s image dst list = go (eqb (runAnswer s image dst list .answer) 0)
+eight-counts s image dst list = go (eqb (runAnswer s image dst list .answer) 0)
   where
-    go : (t : Bool) → length (pick {X = Outcome} t (whenDone s image dst list) (whenRefused s (runAnswer s image dst list)) .ties) ≡ 8
-    go true = length-build 8 (tiesAfter s list (countOf list) (begin s image dst))
-    go false = length-build 8 (λ c. 0)
+    go : (t : Bool)
+        → (length (pick {X = Outcome} t (whenDone s image dst list) (whenRefused s (runAnswer s image dst list)) .ties) ≡ 8)
+        × (length (pick {X = Outcome} t (whenDone s image dst list) (whenRefused s (runAnswer s image dst list)) .stores) ≡ 8)
+    go true = (
+      length-build 8 (countAfter tiesBy s list (countOf list) (begin s image dst)),
+      length-build 8 (countAfter (storesBy s) s list (countOf list) (begin s image dst)),
+    )
+    go false = (length-build 8 (λ c. 0), length-build 8 (λ c. 0))

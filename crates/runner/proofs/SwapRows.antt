@@ -9,17 +9,20 @@ use lib.ListN.{length, getD, set, length-set}
 use lib.Seq.{getD-set-same, getD-set-other}
 use lib.Bits.{bitAnd, bitOr, bitXor}
 use lib.Dec.{eqb, ltb}
-use borrow.Author.Tests.{lt-ltb, le-ltb, eq-eqb, ne-eqb}
+use borrow.Author.Tests.{lt-ltb, le-ltb, ltb-true, eq-eqb, ne-eqb}
 use Rattle.lane.specs.declared.Insn.{Insn}
-use Rattle.lane.specs.Words.{pick, bit, Lane, Stores, reg, upd, after, enabled}
+use Rattle.lane.specs.Words.{pick, bit, flagOf, Lane, Stores, reg, upd, after, enabled, registerStores}
 use Rattle.lane.specs.Swap.{compared, isBelow, below, plainSwap, indexSwap, indexOf, swapWith, swap, maskOf, swaps}
 use Rattle.lane.proofs.Cases.{pick-true, pick-false}
 use Rattle.lane.proofs.Ranks.{swaps-is}
+use Rattle.lane.proofs.Counted.{flag-small, flag-false, under-count, none-count, stores-append}
 use Rattle.lane.proofs.Tables.{and-left}
 use Rattle.lane.proofs.Stores.{length-build, getD-build, upd-same, upd-other, after-append}
 use Rattle.runner.specs.Image.{laneIn}
 use Rattle.runner.specs.PrivateRows.{storing, storingIn, row, full, Enabled, marked, Masks}
-use Rattle.runner.specs.PrivateSwap.{swapsBy, part, maskRows, NoIndex, storedUnder, exchanged, masksAt, storedTo, storedBoth}
+use Rattle.runner.specs.PrivateSwap.{swapsBy, part, maskRows, NoIndex, storedUnder, exchanged, masksAt, storedTo, storedBoth, countTo, countExchanged, swapCount}
+use Rattle.runner.specs.Run.{overColumn}
+use Rattle.runner.specs.PrivateSteps.{counted, Room, times}
 use Rattle.runner.proofs.Masks.{marks, masks-of}
 use Rattle.runner.proofs.Lanes.{split, same-lanes, own-lanes, storing-same, storing-then, lane-storing, storing-none, in-then}
 use Rattle.runner.proofs.Filled.{Spread, none-below, spread-start, put-holds, operand}
@@ -27,6 +30,8 @@ use Rattle.runner.proofs.Enabled.{quiet-enabled}
 use Rattle.runner.proofs.Quick.{no-or}
 use Rattle.runner.proofs.Quiet.{quiet-swap}
 use Rattle.runner.proofs.Operands.{reg-low}
+use Rattle.runner.proofs.Counts.{counted-same, counted-none, counted-twice, room-after}
+use Rattle.runner.proofs.Tallied.{times-one, times-few}
 
 -- ---- masks
 
@@ -410,6 +415,44 @@ module _ (image t : List ℕ) (i : Insn) (E T ix : ℕ → Bool) (e : t ≡ mask
       ∙ storing-same image _ _
       (λ L l. lane-stores (T L) (ix L) (i .vc) (i .vd) (C L) (D L) (own L (indexOf (i .vc))) (own L (indexOf (i .vd))))
 
+  -- the stores that are counted by the masks are those that are made
+  count-to : (r L w : ℕ) → L < 32 → countTo r t L ≡ registerStores (stores (T L) (ix L) r w)
+  unfolding storedTo
+  count-to r L w l = sym (ap registerStores (sym (by-masks r L w l)) ∙ below-eight (ltb r 8) (marked t (masksAt r + L)) (ltb-true r 8))
+    where
+      below-eight : (s b : Bool) → (s ≡ true → r < 8) → registerStores (pick s (storedUnder r b w) []) ≡ flagOf (s && b)
+      below-eight true b h =
+          ap registerStores (pick-true true (storedUnder r b w) [] refl) ∙ under-count b r w (let k : r < 8 = h refl in omega arith)
+      below-eight false b h = ap registerStores (pick-false false (storedUnder r b w) [] refl) ∙ none-count ∙ sym flag-false
+
+  count-exchanged : (L : ℕ) → L < 32 → countExchanged t L ≡ registerStores (exchangedIn image L)
+  unfolding exchanged
+  count-exchanged L l =
+      ap (λ (b : Bool). 2 * flagOf b) (by-index L l) ∙ twice (flagOf (T L && ix L))
+      ∙ sym
+      (stores-append (storedUnder (indexOf (i .vc)) (T L && ix L) (own L (indexOf (i .vd)))) (storedUnder (indexOf (i .vd)) (T L && ix L) (own L (indexOf (i .vc))))
+      ∙ ap (λ (n : ℕ). n + registerStores (storedUnder (indexOf (i .vd)) (T L && ix L) (own L (indexOf (i .vc)))))
+      (under-count (T L && ix L) (indexOf (i .vc)) (own L (indexOf (i .vd))) (omega arith))
+      ∙ ap (λ (n : ℕ). flagOf (T L && ix L) + n) (under-count (T L && ix L) (indexOf (i .vd)) (own L (indexOf (i .vc))) (omega arith)))
+    where
+      twice : (n : ℕ) → 2 * n ≡ n + n
+      twice n = omega arith
+
+  swap-counts : (L : ℕ) → L < 32
+      → swapCount i t L
+      ≡ registerStores (pick (T L) (pick (ix L) (indexSwap (i .vc) (i .vd) (C L) (D L) (own L (indexOf (i .vc))) (own L (indexOf (i .vd)))) (plainSwap (i .vc) (i .vd) (C L) (D L))) [])
+  unfolding exchanged
+  swap-counts L l =
+      cc (count-exchanged L l, count-to (i .vc) L (D L) l, count-to (i .vd) L (C L) l)
+      ∙ turned (registerStores (exchangedIn image L)) (registerStores (stores (T L) (ix L) (i .vc) (D L))) (registerStores (stores (T L) (ix L) (i .vd) (C L)))
+      ∙ sym
+      (stores-append (stores (T L) (ix L) (i .vc) (D L) ++ stores (T L) (ix L) (i .vd) (C L)) (exchangedIn image L)
+      ∙ ap (λ (n : ℕ). n + registerStores (exchangedIn image L)) (stores-append (stores (T L) (ix L) (i .vc) (D L)) (stores (T L) (ix L) (i .vd) (C L))))
+      ∙ ap registerStores (lane-stores (T L) (ix L) (i .vc) (i .vd) (C L) (D L) (own L (indexOf (i .vc))) (own L (indexOf (i .vd))))
+    where
+      turned : (x y z : ℕ) → x + y + z ≡ y + z + x
+      turned x y z = omega arith
+
 -- SWAP, from the rows of operands and masks
 module _ (image c d t : List ℕ) (i : Insn) (ec : c ≡ row (λ L. reg L (laneIn image L) (i .vc))) (ed : d ≡ row (λ L. reg L (laneIn image L) (i .vd)))
     (e : t ≡ rowsBy image c d t (eqb (i .md) 0) (ltb (i .vd) 12) (maskOf (i .md))) where
@@ -431,6 +474,12 @@ module _ (image c d t : List ℕ) (i : Insn) (ec : c ≡ row (λ L. reg L (laneI
       made image t i E T ix e y z (both image t i E T ix e y h)
       (k ∙ storing-same y _ _ (λ L l. ap (λ (b : Bool). exchanged (indexOf (i .vc)) (indexOf (i .vd)) b b (laneIn y L)) (by-index image t i E T ix e L l)))
       ∙ storing-same image _ _ (λ L l. rw (operand c _ ec L l, operand d _ ed L l))
+
+  -- and so are the counts
+  pub swap-counted : (before counts : List ℕ) → counts ≡ counted before (swapCount i t) → counts ≡ counted before (λ L. registerStores (swap i L (laneIn image L)))
+  unfolding E T ix swap swapWith
+  swap-counted before counts h =
+      h ∙ counted-same before _ _ (λ L l. swap-counts image t i E T ix e L l ∙ rw (operand c _ ec L l, operand d _ ed L l))
 
   -- and the masks of the enabled lanes are as they were
   pub swap-enabled : (z : List ℕ) → z ≡ storing image (λ L. swap i L (laneIn image L)) → Enabled t z
@@ -501,3 +550,40 @@ exchange-skipped image t p q seen e h k = by (ℕ-discrete p q) (ℕ-discrete se
     by (yes r) s = exchange-same image p q (λ L. marked t (96 + L)) e r
     by (no r) (yes s) = exchange-none image t p q e (k s)
     by (no r) (no s) = absurd (false≢true (sym h ∙ simp (ne-eqb p q r, ne-eqb seen 0 s)))
+
+-- ---- the counts, one after the other
+
+pub to-counted : (r at : ℕ) (t stores counts : List ℕ) → r < 8 → at ≡ masksAt r → counts ≡ counted stores (times 1 (λ L. marked t (at + L)))
+    → counts ≡ counted stores (countTo r t)
+to-counted r at t stores counts h e k =
+    k
+    ∙ times-one stores (λ L. marked t (at + L)) (countTo r t)
+    (λ L l. ap (λ (a : ℕ). flagOf (marked t (a + L))) e ∙ ap (λ (b : Bool). flagOf (b && marked t (masksAt r + L))) (sym (lt-ltb r 8 h)))
+
+pub to-none : (r : ℕ) (t stores : List ℕ) → 8 ≤ r → length stores ≡ 8 → stores ≡ counted stores (countTo r t)
+to-none r t stores h e =
+    counted-none stores (countTo r t) e (λ L l. ap (λ (b : Bool). flagOf (b && marked t (masksAt r + L))) (le-ltb r 8 h) ∙ flag-false)
+
+pub exchanges-none : (t stores : List ℕ) → NoIndex t → length stores ≡ 8 → stores ≡ counted stores (countExchanged t)
+unfolding NoIndex
+exchanges-none t stores h e =
+    counted-none stores (countExchanged t) e (λ L l. ap (λ (x : ℕ). 2 * flagOf (eqb x 0xFFFFFFFF)) (h L l) ∙ ap (λ (n : ℕ). 2 * n) flag-false)
+
+few-to : (r : ℕ) (t : List ℕ) (c : ℕ) → overColumn (countTo r t) c ≤ 4
+few-to r t c = omega (arith, flag-small (to c), flag-small (to (8 + c)), flag-small (to (16 + c)), flag-small (to (24 + c)))
+  where
+    to : ℕ → Bool
+    to L = ltb r 8 && marked t (masksAt r + L)
+
+pub room-exchanged : (t stores counts : List ℕ) → Room 24 stores → counts ≡ counted stores (countExchanged t) → Room 16 counts
+room-exchanged t stores counts r e = room-after 24 16 8 stores counts (countExchanged t) (omega arith) r (times-few 2 (λ L. marked t (96 + L))) e
+
+pub room-to : (vc : ℕ) (t stores counts : List ℕ) → Room 16 stores → counts ≡ counted stores (countTo vc t) → Room 4 counts
+room-to vc t stores counts r e = room-after 16 4 4 stores counts (countTo vc t) (omega arith) r (few-to vc t) e
+
+pub all-counted : (i : Insn) (t stores first second third : List ℕ) → first ≡ counted stores (countExchanged t) → second ≡ counted first (countTo (i .vc) t)
+    → third ≡ counted second (countTo (i .vd) t)
+    → third ≡ counted stores (swapCount i t)
+all-counted i t stores first second third e f g =
+    g ∙ ap (λ (x : List ℕ). counted x (countTo (i .vd) t)) (f ∙ ap (λ (x : List ℕ). counted x (countTo (i .vc) t)) e ∙ counted-twice stores (countExchanged t) (countTo (i .vc) t))
+    ∙ counted-twice stores (λ L. countExchanged t L + countTo (i .vc) t L) (countTo (i .vd) t)

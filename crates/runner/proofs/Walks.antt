@@ -288,23 +288,23 @@ cut-off : (n m : ℕ) → n + m - n ≡ m
 cut-off n m = omega arith
 
 -- the machine that an instruction by itself leaves
-through-one : (s : Settings) (list : List ℕ) (k cursor : ℕ) (image dst : List ℕ) (last : ℕ) (x y ties : List ℕ) → 6 * k + 6 ≤ length list
-    → Through s cursor image dst (sixOf list k) last x y ties
+through-one : (s : Settings) (list : List ℕ) (k cursor : ℕ) (image dst : List ℕ) (last : ℕ) (x y ties stores : List ℕ) → 6 * k + 6 ≤ length list
+    → Through s cursor image dst (sixOf list k) last x y ties stores
     → starting last x y ≡ stepped s (insnAt list k) (starting cursor image dst)
-through-one s list k cursor image dst last x y ties h t =
+through-one s list k cursor image dst last x y ties stores h t =
     machine-is (steps s (sixOf list k) (countOf (sixOf list k)) (starting cursor image dst)) last x y (t .cursor-is) (t .image-is) (t .dst-is)
     ∙ six-steps s list k (starting cursor image dst) h
 
-pub step-made : (s : Settings) (list store image dst entry x y ties : List ℕ) (k cursor a last : ℕ) (i : Insn) → 6 * k + 6 ≤ length list
+pub step-made : (s : Settings) (list store image dst entry x y ties stores : List ℕ) (k cursor a last : ℕ) (i : Insn) → 6 * k + 6 ≤ length list
     → i ≡ insnAt list k
     → a ≡ address (i .imm) (s .offset) cursor
     → entry ≡ Walk.entryAt i a (starting cursor image dst)
-    → Through s cursor image dst (take (6 * k + 6 - 6 * k) (drop (6 * k) list)) last x y ties
+    → Through s cursor image dst (take (6 * k + 6 - 6 * k) (drop (6 * k) list)) last x y ties stores
     → Walk.standing (record { at = k + 1; cursor = last }) x y (take (802 * k) store ++ (entry ++ drop (802 * k + 802 - 802 * k) (drop (802 * k) store)))
     ≡ Walk.forwarded s list (Walk.standing (record { at = k; cursor = cursor }) image dst store)
 unfolding Walk.forwarded Walk.withEntry Walk.entryOf
-step-made s list store image dst entry x y ties k cursor a last i h ei ea ee t =
-    standing-is _ _ (k + 1) _ _ (through-one s list k cursor image dst last x y ties h (rw (cut-off (6 * k) 6) at t))
+step-made s list store image dst entry x y ties stores k cursor a last i h ei ea ee t =
+    standing-is _ _ (k + 1) _ _ (through-one s list k cursor image dst last x y ties stores h (rw (cut-off (6 * k) 6) at t))
     (ap (λ (e : List ℕ). take (802 * k) store ++ (e ++ drop (802 * k + 802 - 802 * k) (drop (802 * k) store))) kept
     ∙ ap (λ (r : List ℕ). take (802 * k) store ++ (Walk.entryOf s (insnAt list k) (starting cursor image dst) ++ r))
     (ap (λ (n : ℕ). drop n (drop (802 * k) store)) (cut-off (802 * k) 802) ∙ drop-drop 802 (802 * k) store))

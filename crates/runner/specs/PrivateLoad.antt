@@ -26,6 +26,13 @@ isOpen own = enabled own && not (bit (own laneConfig) 1)
 unfoldable pub openIn : List ℕ → List ℕ
 openIn image = row (λ L. full (isOpen (laneIn image L)))
 
+-- Of those, the lanes that capture their place, and the row of their masks.
+abbrev pub isCaught : ℕ → List ℕ → ℕ → Bool
+isCaught vd image L = isOpen (laneIn image L) && captures vd (laneIn image L laneConfig)
+
+unfoldable pub caughtIn : ℕ → List ℕ → List ℕ
+caughtIn vd image = row (λ L. full (isCaught vd image L))
+
 -- Lane L's cell, of the pairs from place `at` on.
 abbrev pub cellOf : List ℕ → ℕ → Bool → ℕ → ℕ
 cellOf dst at odd L = pick odd (getD dst (at + (2 * L + 1)) 0) (getD dst (at + 2 * L) 0)

@@ -2,13 +2,14 @@
 -- LUT by rows: rows of floats, and the one store of a lane.
 use Prim.Native.Nat.{ℕ, _+_, _<_}
 use mathlib.Core.Path.{_≡_}
-use mathlib.Core.Bool.{Bool, not}
+use mathlib.Core.Bool.{Bool, true, false, not}
 use mathlib.Core.List.{List, [], _∷_}
 use lib.ListN.{getD}
 use lib.Dec.{eqb}
 use lib.Ieee.{Float, nan}
 use Rattle.lane.specs.Words.{Lane, Stores}
 use Rattle.lane.specs.Lut.{lutStores, lutAnswer, resultOf}
+use Rattle.runner.specs.PrivateRows.{full}
 
 -- A row of floats has f's number in each lane.
 abbrev pub Numbers : (ℕ → Float) → List Float → Type 0
@@ -36,6 +37,13 @@ abbrev pub storedSlot : Stores → ℕ
 storedSlot [] = 0
 storedSlot (s ∷ rest) = s .0
 
--- The words that the first n lanes are left with, `old` where there is none, and 32 places on their slots.
+-- Whether there is a store.
+abbrev pub isMade : Stores → Bool
+isMade [] = false
+isMade (s ∷ rest) = true
+
+-- The words that the first n lanes are left with, `old` where there is none, 32 places on their slots, and 32 further on the masks of whether there is one.
 abbrev pub Answers : (ℕ → Stores) → (ℕ → ℕ) → ℕ → List ℕ → Type 0
-Answers made old n xs = (L : ℕ) → L < n → (getD xs L 0 ≡ storedWord (made L) (old L)) × (getD xs (32 + L) 0 ≡ storedSlot (made L))
+Answers made old n xs =
+    (L : ℕ) → L < n
+    → (getD xs L 0 ≡ storedWord (made L) (old L)) × ((getD xs (32 + L) 0 ≡ storedSlot (made L)) × (getD xs (64 + L) 0 ≡ full (isMade (made L))))

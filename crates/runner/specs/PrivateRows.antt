@@ -29,6 +29,14 @@ full t = pick t 0xFFFFFFFF 0
 abbrev pub marked : List ℕ → ℕ → Bool
 marked t k = eqb (getD t k 0) 0xFFFFFFFF
 
+-- The 32 masks from `at` on are those of e's tests, lane by lane.
+abbrev pub MarksAt : ℕ → (ℕ → Bool) → List ℕ → Type 0
+MarksAt at e t = (n : ℕ) → n < 32 → getD t (at + n) 0 ≡ full (e n)
+
+-- They are masks, each by its own test.
+abbrev pub MasksAt : ℕ → List ℕ → Type 0
+MasksAt at t = MarksAt at (λ n. marked t (at + n)) t
+
 -- Each of the first n words is a mask.
 unfoldable pub Masks : ℕ → List ℕ → Type 0
 Masks n t = (k : ℕ) → k < n → getD t k 0 ≡ full (marked t k)

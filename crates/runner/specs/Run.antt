@@ -1,5 +1,5 @@
 -- Document 01, "What the replay covers": one instruction over all lanes, the steps through a list, and a run. Document 02, M-101: "Dst is now written"; M-102:
--- ties, counted by column.
+-- ties, and M-106: stores to registers, both counted by column.
 use Prim.Native.Nat.{ℕ, zero, suc, _+_, _%_}
 use mathlib.Core.Path.{_≡_}
 use mathlib.Core.Bool.{true, false}
@@ -9,7 +9,7 @@ use lib.Dec.{eqb}
 use Rattle.lane.specs.declared.Settings.{Settings}
 use Rattle.lane.specs.declared.Insn.{Insn}
 use Rattle.lane.specs.declared.Cells.{Cells}
-use Rattle.lane.specs.Words.{pick, bit, flagOf, Lane, laneConfig, build, after}
+use Rattle.lane.specs.Words.{pick, bit, flagOf, Lane, Stores, laneConfig, build, after, registerStores}
 use Rattle.lane.specs.Load.{address, stride, nextCursor, placeOf, isMet, ownerOf}
 use Rattle.lane.specs.Rule.{storesOf, cellsOf, isTied}
 use Rattle.runner.specs.declared.Found.{Found}
@@ -30,10 +30,13 @@ evenCell dst a L = getD dst (placeOf a L false) 0
 abbrev pub oddCell : List ℕ → ℕ → ℕ → ℕ
 oddCell dst a L = getD dst (placeOf a L true) 0
 
--- Lane L after one instruction, at address a: the lane rules over the lane, row 0's lane of its column and its two cells.
+-- Lane L's stores in one instruction, at address a: the lane rules over the lane, row 0's lane of its column and its two cells.
+abbrev pub storesAt : Settings → Insn → ℕ → List ℕ → List ℕ → ℕ → Stores
+storesAt s i a image dst L = storesOf (i .op) s a i L (laneIn image (headOf L)) (evenCell dst a L) (oddCell dst a L) (laneIn image L)
+
+-- Lane L after them.
 unfoldable pub laneAfter : Settings → Insn → ℕ → List ℕ → List ℕ → ℕ → Lane
-laneAfter s i a image dst L =
-    after (storesOf (i .op) s a i L (laneIn image (headOf L)) (evenCell dst a L) (oddCell dst a L) (laneIn image L)) (laneIn image L)
+laneAfter s i a image dst L = after (storesAt s i a image dst L) (laneIn image L)
 
 -- The image after one instruction: every lane from the image before, at address a,
 unfoldable pub imageAt : Settings → Insn → ℕ → List ℕ → List ℕ → List ℕ
@@ -92,32 +95,56 @@ finish s image dst list = steps s list (countOf list) (begin s image dst)
 abbrev pub tieIn : Insn → List ℕ → ℕ → ℕ
 tieIn i image L = flagOf (isTied (i .op) i L (laneIn image L))
 
+-- Document 02, M-106: "the number of stores to registers 0 to 7 and 11 to 14 made by the rules", of lane L in one instruction, at address a.
+abbrev pub storesIn : Settings → Insn → ℕ → List ℕ → List ℕ → ℕ → ℕ
+storesIn s i a image dst L = registerStores (storesAt s i a image dst L)
+
+-- Both of the machine before the instruction.
+abbrev pub tiesBy : Insn → Machine → ℕ → ℕ
+tiesBy i m = tieIn i (m .image)
+
+abbrev pub storesBy : Settings → Insn → Machine → ℕ → ℕ
+storesBy s i m = storesIn s i (address (i .imm) (s .offset) (m .cursor)) (m .image) (m .dst)
+
 -- What the four lanes of column c have together: lanes c, 8 + c, 16 + c and 24 + c.
 abbrev pub overColumn : (ℕ → ℕ) → ℕ → ℕ
 overColumn f c = f c + f (8 + c) + f (16 + c) + f (24 + c)
 
--- "for each of the eight columns separately, how many enabled acting lanes met an equal pair .., summed over the list": column c's, over the first n
--- instructions.
-unfoldable pub tiesAfter : Settings → List ℕ → ℕ → Machine → ℕ → ℕ
-tiesAfter s list zero m c = 0
-tiesAfter s list (suc n) m c = tiesAfter s list n m c + overColumn (tieIn (insnAt list n) (steps s list n m .image)) c
+-- "for each of the eight columns separately, .. summed over the list": column c's count over the first n instructions, where lane L has `more i m L` to count
+-- in instruction i, m being the machine before it.
+unfoldable pub countAfter : (Insn → Machine → ℕ → ℕ) → Settings → List ℕ → ℕ → Machine → ℕ → ℕ
+countAfter more s list zero m c = 0
+countAfter more s list (suc n) m c = countAfter more s list n m c + overColumn (more (insnAt list n) (steps s list n m)) c
 
--- The eight counts of a whole list.
+-- The eight counts of a whole list: the ties, and the stores.
+abbrev pub countsOf : (Insn → Machine → ℕ → ℕ) → Settings → List ℕ → List ℕ → List ℕ → List ℕ
+countsOf more s image dst list = build 8 (countAfter more s list (countOf list) (begin s image dst))
+
 abbrev pub tiesOf : Settings → List ℕ → List ℕ → List ℕ → List ℕ
-tiesOf s image dst list = build 8 (tiesAfter s list (countOf list) (begin s image dst))
+tiesOf s image dst list = countsOf tiesBy s image dst list
 
--- "0 on refusal".
-abbrev pub noTies : List ℕ
-noTies = build 8 (λ c. 0)
+abbrev pub storesMade : Settings → List ℕ → List ℕ → List ℕ → List ℕ
+storesMade s image dst list = countsOf (storesBy s) s image dst list
+
+-- "0 on refusal", of either.
+abbrev pub noCounts : List ℕ
+noCounts = build 8 (λ c. 0)
 
 -- "Done returns 0, steps equal to the number of instructions, place 0 and the final cursor."
 abbrev pub whenDone : Settings → List ℕ → List ℕ → List ℕ → Outcome
 whenDone s image dst list =
-    record { answer = 0; steps = countOf list; place = 0; cursor = finish s image dst list .cursor; ties = tiesOf s image dst list }
+    record {
+      answer = 0;
+      steps = countOf list;
+      place = 0;
+      cursor = finish s image dst list .cursor;
+      ties = tiesOf s image dst list;
+      stores = storesMade s image dst list;
+    }
 
 -- "A refusal returns its number, steps 0, the given cursor, and as place .."
 abbrev pub whenRefused : Settings → Found → Outcome
-whenRefused s f = record { answer = f .answer; steps = 0; place = f .place; cursor = s .cursor; ties = noTies }
+whenRefused s f = record { answer = f .answer; steps = 0; place = f .place; cursor = s .cursor; ties = noCounts; stores = noCounts }
 
 -- What a run returns.
 unfoldable pub outcomeOf : Settings → List ℕ → List ℕ → List ℕ → Outcome

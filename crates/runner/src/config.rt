@@ -2,6 +2,7 @@
 use crate::rows::full;
 use crate::rows::put;
 use crate::rows::word_at;
+use crate::traffic::count_marked;
 use lane::Insn;
 use lane::config::constant_after;
 use lane::config::lane_config_after;
@@ -15,14 +16,17 @@ use lane::words::SEQUENCE;
 use lane::words::TEMPLATE;
 use lane::words::USE_FLAG;
 ghost use mathlib.Core.Path.{_≡_};
+ghost use mathlib.Core.Bool.{Bool, _&&_};
 ghost use mathlib.Core.List.{[], _∷_};
 ghost use Prim.Native.Nat.{ℕ, _<_, _%_};
 ghost use lib.ListN.{length, getD};
-ghost use Rattle.lane.specs.Words.{pick};
+ghost use lib.Dec.{ltb};
+ghost use Rattle.lane.specs.Words.{pick, flagOf, registerStores};
 ghost use Rattle.lane.specs.Config as Rules;
 ghost use Rattle.runner.specs.Image.{laneIn};
 ghost use Rattle.runner.specs.PrivateRows as Rows;
 ghost use Rattle.runner.specs.PrivateConfig as ConfigRows;
+ghost use Rattle.runner.specs.PrivateSteps as Steps;
 
 // The slot that CONFIG stores to, for any vd but 9 and 10.
 fn config_slot(vd: u32) -> usize
@@ -120,10 +124,20 @@ fn config_rows(image: &mut [u32], slot: usize, i: Insn, masks: &[u32; 32], value
     }
 }
 
+// One store in each lane that is reached, where vd is a register: 11 to 14.
+fn count_reached(vd: u32, masks: &[u32; 32], stores: &mut [u32])
+    requires { ⌜ Rows.MasksAt 0 (now masks) × Steps.Room 24 (now stores) ⌝ }
+    ensures { λ _. ⌜ ((e : ℕ → Bool) → Rows.MarksAt 0 e (now (masks .entry)) → now (stores .exit) ≡ Steps.counted (now (stores .entry)) (Steps.times (flagOf (ltb 10 vd && ltb vd 15)) e)) ⌝ }
+{
+    if (10 < vd) & (vd < 15) {
+        count_marked(masks, 0, 1, stores);
+    }
+}
+
 // CONFIG over all lanes.
-pub(crate) fn config(image: &mut [u32], edition: u32, i: Insn)
-    requires { ⌜ length (now image) ≡ 768 ⌝ }
-    ensures { λ _. ⌜ now (image .exit) ≡ Rows.storing (now (image .entry)) (λ L. Rules.config edition i L (laneIn (now (image .entry)) (L % 8)) (laneIn (now (image .entry)) L)) ⌝ }
+pub(crate) fn config(image: &mut [u32], edition: u32, i: Insn, stores: &mut [u32])
+    requires { ⌜ (length (now image) ≡ 768) × Steps.Room 24 (now stores) ⌝ }
+    ensures { λ _. ⌜ (now (image .exit) ≡ Rows.storing (now (image .entry)) (λ L. Rules.config edition i L (laneIn (now (image .entry)) (L % 8)) (laneIn (now (image .entry)) L))) × (now (stores .exit) ≡ Steps.counted (now (stores .entry)) (λ L. registerStores (Rules.config edition i L (laneIn (now (image .entry)) (L % 8)) (laneIn (now (image .entry)) L)))) ⌝ }
 {
     if i.vd == 9 {
         return;
@@ -134,4 +148,5 @@ pub(crate) fn config(image: &mut [u32], edition: u32, i: Insn)
     let masks = reached_masks(image, i);
     let values = config_values(image, edition, i);
     config_rows(image, config_slot(i.vd), i, &masks, &values);
+    count_reached(i.vd, &masks, stores);
 }

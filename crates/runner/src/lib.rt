@@ -15,6 +15,8 @@ mod load;
 mod store;
 // SWAP's ties, counted by column.
 mod ties;
+// Register traffic: the stores to registers, counted by column.
+mod traffic;
 // SWAP over all lanes.
 mod swap;
 // LUT over all lanes.
@@ -40,19 +42,27 @@ pub struct Found {
     pub place: u32,
 }
 
-// What a run returns; `ties` are the columns' counts.
+// What a run returns; `ties` and `stores` are the columns' counts.
 pub struct Outcome {
     pub answer: u32,
     pub steps: u32,
     pub place: u32,
     pub cursor: u32,
     pub ties: [u32; 8],
+    pub stores: [u32; 8],
 }
 
 // What the steps through a list end with, beside the image and the Dst.
 struct Ended {
     cursor: u32,
     ties: [u32; 8],
+    stores: [u32; 8],
+}
+
+// What an instruction goes on with: the cursor, and the stores that are owed to each lane that is enabled.
+struct Onward {
+    cursor: u32,
+    owed: u32,
 }
 
 // Instruction `k` of a list.

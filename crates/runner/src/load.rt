@@ -1,9 +1,10 @@
 // LOAD and LOADI over all lanes. LOAD reads both cells of each lane's pair and keeps one by a mask, so that no place is worked out for each
-// lane; then it stores the words, and the captured places in a loop of their own.
+// lane; then it stores the words, and the captured places in a loop of their own, and counts both by the masks they were stored under.
 use crate::rows::full;
 use crate::rows::masked;
 use crate::rows::put;
 use crate::rows::word_at;
+use crate::traffic::count_marked;
 use lane::Insn;
 use lane::load::captures;
 use lane::load::immediate;
@@ -14,12 +15,13 @@ ghost use mathlib.Core.Path.{_≡_};
 ghost use mathlib.Core.Bool.{Bool};
 ghost use Prim.Native.Nat.{ℕ, _+_, _*_, _%_, _<_, _≤_};
 ghost use lib.ListN.{length, getD};
-ghost use Rattle.lane.specs.Words.{bit, build};
+ghost use Rattle.lane.specs.Words.{bit, build, registerStores};
 ghost use Rattle.lane.specs.Load as Rules;
 ghost use Rattle.runner.specs.Image.{laneIn};
 ghost use Rattle.runner.specs.Run.{evenCell, oddCell};
 ghost use Rattle.runner.specs.PrivateRows as Rows;
 ghost use Rattle.runner.specs.PrivateLoad as LoadRows;
+ghost use Rattle.runner.specs.PrivateSteps as Steps;
 
 // The masks of the lanes whose cell is the odd one of its pair. The four lanes of a column go by the first one's LaneConfig.
 pub(crate) fn odd_row(image: &[u32], a: u16) -> [u32; 32]
@@ -117,41 +119,91 @@ fn load_by_mod(image: &mut [u32], vd: usize, m: u32, got: &[u32; 32], opens: &[u
     }
 }
 
-// The captured places, vd being below 4; `first` is the place of lane 0's even cell.
-fn capture_rows(image: &mut [u32], vd: usize, first: u32, odds: &[u32; 32], opens: &[u32; 32])
+// The captured places, vd being below 4; `first` is the place of lane 0's even cell. The masks of the lanes that capture are returned.
+fn capture_rows(
+    image: &mut [u32],
+    vd: usize,
+    first: u32,
+    odds: &[u32; 32],
+    opens: &[u32; 32],
+) -> [u32; 32]
     requires { ⌜ (length (now image) ≡ 768) × ((vd < 4) × ((first < 16384) × (now opens ≡ LoadRows.openIn (now image)))) ⌝ }
-    ensures { λ _. ⌜ now (image .exit) ≡ Rows.storing (now (image .entry)) (λ L. LoadRows.capturedOnly vd (first + 2 * L + getD (now (odds .entry)) L 0 % 2) (laneIn (now (image .entry)) L)) ⌝ }
+    ensures { λ x. ⌜ (now (image .exit) ≡ Rows.storing (now (image .entry)) (λ L. LoadRows.capturedOnly vd (first + 2 * L + getD (now (odds .entry)) L 0 % 2) (laneIn (now (image .entry)) L))) × (x ≡ LoadRows.caughtIn vd (now (image .entry))) ⌝ }
 {
+    let mut caught = [0u32; 32];
     let mut n: usize = 0;
     while n < 32 {
         let mask = opens[n] & full(captures(vd as u32, word_at(image, LANE_CONFIG, n)));
         put(image, vd + 4, n, mask, first + 2 * (n as u32) + odds[n] % 2);
+        caught[n] = mask;
         n += 1;
+    }
+    caught
+}
+
+// The captured places, for any vd below 8, and the count of them: none from 4 on.
+fn capture(
+    image: &mut [u32],
+    vd: usize,
+    first: u32,
+    odds: &[u32; 32],
+    opens: &[u32; 32],
+    stores: &mut [u32],
+)
+    requires { ⌜ (length (now image) ≡ 768) × ((first < 16384) × ((now opens ≡ LoadRows.openIn (now image)) × Steps.Room 4 (now stores))) ⌝ }
+    ensures { λ _. ⌜ (now (image .exit) ≡ Rows.storing (now (image .entry)) (λ L. LoadRows.capturedOnly vd (first + 2 * L + getD (now (odds .entry)) L 0 % 2) (laneIn (now (image .entry)) L))) × (now (stores .exit) ≡ Steps.counted (now (stores .entry)) (Steps.times 1 (LoadRows.isCaught vd (now (image .entry))))) ⌝ }
+{
+    if vd < 4 {
+        let caught = capture_rows(image, vd, first, odds, opens);
+        count_marked(&caught, 0, 1, stores);
     }
 }
 
 // LOAD with mod `m` at address `a`, vd being below 8.
-fn load_words(image: &mut [u32], dst: &[u16], a: u16, vd: usize, m: u32, go: &[u32; 128])
-    requires { ⌜ (length (now image) ≡ 768) × (Rows.Enabled (now go) (now image) × ((length (now dst) ≡ 16384) × ((a < 1024) × (vd < 8)))) ⌝ }
-    ensures { λ _. ⌜ now (image .exit) ≡ Rows.storing (now (image .entry)) (λ L. LoadRows.loadedAt (now (image .entry)) (now (dst .entry)) a vd m L) ⌝ }
+fn load_words(
+    image: &mut [u32],
+    dst: &[u16],
+    a: u16,
+    vd: usize,
+    m: u32,
+    go: &[u32; 128],
+    stores: &mut [u32],
+)
+    requires { ⌜ (length (now image) ≡ 768) × (Rows.Enabled (now go) (now image) × ((length (now dst) ≡ 16384) × ((a < 1024) × ((vd < 8) × Steps.Room 24 (now stores))))) ⌝ }
+    ensures { λ _. ⌜ (now (image .exit) ≡ Rows.storing (now (image .entry)) (λ L. LoadRows.loadedAt (now (image .entry)) (now (dst .entry)) a vd m L)) × (now (stores .exit) ≡ Steps.counted (now (stores .entry)) (λ L. registerStores (LoadRows.loadedAt (now (image .entry)) (now (dst .entry)) a vd m L))) ⌝ }
 {
     let odds = odd_row(image, a);
     let first = 64 * ((a as usize) / 4);
     let got = cells(dst, first, &odds);
     let opens = open_row(image, go);
     load_by_mod(image, vd, m, &got, &opens);
-    if vd < 4 {
-        capture_rows(image, vd, first as u32, &odds, &opens);
-    }
+    capture(image, vd, first as u32, &odds, &opens, stores);
+    count_marked(&opens, 0, 1, stores);
 }
 
 // LOAD over all lanes, at address `a`.
-pub(crate) fn load(image: &mut [u32], dst: &[u16], srcb: u32, a: u16, i: Insn, go: &[u32; 128])
-    requires { ⌜ (length (now image) ≡ 768) × (Rows.Enabled (now go) (now image) × ((length (now dst) ≡ 16384) × (a < 1024))) ⌝ }
-    ensures { λ _. ⌜ now (image .exit) ≡ Rows.storing (now (image .entry)) (λ L. Rules.load srcb a i L (bit (laneIn (now (image .entry)) (L % 8) 12) 5) (evenCell (now (dst .entry)) a L) (oddCell (now (dst .entry)) a L) (laneIn (now (image .entry)) L)) ⌝ }
+pub(crate) fn load(
+    image: &mut [u32],
+    dst: &[u16],
+    srcb: u32,
+    a: u16,
+    i: Insn,
+    go: &[u32; 128],
+    stores: &mut [u32],
+)
+    requires { ⌜ (length (now image) ≡ 768) × (Rows.Enabled (now go) (now image) × ((length (now dst) ≡ 16384) × ((a < 1024) × Steps.Room 24 (now stores)))) ⌝ }
+    ensures { λ _. ⌜ (now (image .exit) ≡ Rows.storing (now (image .entry)) (λ L. Rules.load srcb a i L (bit (laneIn (now (image .entry)) (L % 8) 12) 5) (evenCell (now (dst .entry)) a L) (oddCell (now (dst .entry)) a L) (laneIn (now (image .entry)) L))) × (now (stores .exit) ≡ Steps.counted (now (stores .entry)) (λ L. registerStores (Rules.load srcb a i L (bit (laneIn (now (image .entry)) (L % 8) 12) 5) (evenCell (now (dst .entry)) a L) (oddCell (now (dst .entry)) a L) (laneIn (now (image .entry)) L)))) ⌝ }
 {
     if i.vd < 8 {
-        load_words(image, dst, a, i.vd as usize, resolved(srcb, i.md), go);
+        load_words(
+            image,
+            dst,
+            a,
+            i.vd as usize,
+            resolved(srcb, i.md),
+            go,
+            stores,
+        );
     }
 }
 

@@ -4,6 +4,7 @@ use crate::rows::full;
 use crate::rows::put;
 use crate::rows::slot_row;
 use crate::rows::word_at;
+use crate::traffic::count_marked;
 use lane::Insn;
 use lane::LutAnswer;
 use lane::lut::float_of;
@@ -20,12 +21,13 @@ ghost use mathlib.Core.List.{[], _∷_};
 ghost use Prim.Native.Nat.{ℕ, _+_, _%_, _<_};
 ghost use lib.ListN.{length, getD};
 ghost use lib.Ieee.{nan};
-ghost use Rattle.lane.specs.Words.{has};
+ghost use Rattle.lane.specs.Words.{has, registerStores};
 ghost use Rattle.lane.specs.Swap as Swap;
 ghost use Rattle.lane.specs.Lut as Rules;
 ghost use Rattle.runner.specs.Image.{laneIn};
 ghost use Rattle.runner.specs.PrivateRows as Rows;
 ghost use Rattle.runner.specs.PrivateLut as LutRows;
+ghost use Rattle.runner.specs.PrivateSteps as Steps;
 
 // The inputs.
 fn inputs(image: &[u32]) -> [f32; 32]
@@ -103,6 +105,16 @@ fn answer_slot(answer: LutAnswer) -> u32
     }
 }
 
+// The mask of whether there is an answer.
+fn answer_mark(answer: LutAnswer) -> u32
+    ensures { λ r. ⌜ ((m r3 : ℕ) → r ≡ Rows.full (LutRows.isMade (Rules.lutStores m r3 answer))) ⌝ }
+{
+    match answer {
+        LutAnswer::Number(_x, _r) => 0xFFFFFFFF,
+        LutAnswer::Nothing => 0,
+    }
+}
+
 // The answers stored to vd, which holds `old`.
 fn answer_rows(
     image: &mut [u32],
@@ -125,7 +137,7 @@ fn answer_rows(
     }
 }
 
-// The words of the answers, and then their slots, where register 7 names the register. Registers 3 and 0 are copied first, as a word of the image
+// The words of the answers, then their slots, then the masks of whether there is one, where register 7 names the register. Registers 3 and 0 are copied first, as a word of the image
 // that only one case of the answer reads would keep the loop from being vectorised.
 fn answer_words(
     image: &[u32],
@@ -134,11 +146,11 @@ fn answer_words(
     r0: &[u32; 32],
     x: &[f32; 32],
     go: &[u32; 128],
-) -> [u32; 64]
+) -> [u32; 96]
     requires { ⌜ (length (now image) ≡ 768) × Rows.Enabled (now go) (now image) ⌝ }
     ensures { λ y. ⌜ LutRows.Answers (λ L. LutRows.answered (i .md) (getD (now (r3 .entry)) L 0) (Swap.acts (i .vd) (laneIn (now (image .entry)) L)) (laneIn (now (image .entry)) L 7 % 16) (getD (now (x .entry)) L nan)) (λ L. getD (now (r0 .entry)) L 0) 32 y ⌝ }
 {
-    let mut words = [0u32; 64];
+    let mut words = [0u32; 96];
     let mut n: usize = 0;
     while n < 32 {
         let free = (i.vd < 12) | (word_at(image, LANE_CONFIG, n) / 16 % 2 == 1);
@@ -146,13 +158,14 @@ fn answer_words(
         let answer = lut_answer(free & (go[n] != 0), register, x[n]);
         words[n] = answer_word(i.md, r3[n], answer, r0[n]);
         words[32 + n] = answer_slot(answer);
+        words[64 + n] = answer_mark(answer);
         n += 1;
     }
     words
 }
 
 // Words stored to the slots that follow them.
-fn scatter(image: &mut [u32], words: &[u32; 64])
+fn scatter(image: &mut [u32], words: &[u32; 96])
     requires { ⌜ (length (now image) ≡ 768) × ((L : ℕ) → L < 32 → getD (now words) (32 + L) 0 < 8) ⌝ }
     ensures { λ _. ⌜ now (image .exit) ≡ Rows.storing (now (image .entry)) (λ L. (getD (now (words .entry)) (32 + L) 0, getD (now (words .entry)) L 0) ∷ []) ⌝ }
 {
@@ -165,38 +178,40 @@ fn scatter(image: &mut [u32], words: &[u32; 64])
 }
 
 // LUT to the register that register 7 names.
-fn lut_named(image: &mut [u32], i: Insn, go: &[u32; 128], x: &[f32; 32])
-    requires { ⌜ (length (now image) ≡ 768) × (Rows.Enabled (now go) (now image) × (LutRows.Numbers (λ L. LutRows.resultIn (laneIn (now image) L)) (now x) × (has (i .md) 8 ≡ true))) ⌝ }
-    ensures { λ _. ⌜ now (image .exit) ≡ Rows.storing (now (image .entry)) (λ L. Rules.lut i (laneIn (now (image .entry)) L)) ⌝ }
+fn lut_named(image: &mut [u32], i: Insn, go: &[u32; 128], x: &[f32; 32], stores: &mut [u32])
+    requires { ⌜ (length (now image) ≡ 768) × (Rows.Enabled (now go) (now image) × (LutRows.Numbers (λ L. LutRows.resultIn (laneIn (now image) L)) (now x) × ((has (i .md) 8 ≡ true) × Steps.Room 24 (now stores)))) ⌝ }
+    ensures { λ _. ⌜ (now (image .exit) ≡ Rows.storing (now (image .entry)) (λ L. Rules.lut i (laneIn (now (image .entry)) L))) × (now (stores .exit) ≡ Steps.counted (now (stores .entry)) (λ L. registerStores (Rules.lut i (laneIn (now (image .entry)) L)))) ⌝ }
 {
     let r3 = slot_row(image, 3);
     let r0 = slot_row(image, 0);
     let words = answer_words(image, i, &r3, &r0, x, go);
     scatter(image, &words);
+    count_marked(&words, 64, 1, stores);
 }
 
 // LUT to vd, where that is stored.
-fn lut_direct(image: &mut [u32], i: Insn, go: &[u32; 128], x: &[f32; 32])
-    requires { ⌜ (length (now image) ≡ 768) × (Rows.Enabled (now go) (now image) × (LutRows.Numbers (λ L. LutRows.resultIn (laneIn (now image) L)) (now x) × ((has (i .md) 8 ≡ false) × (i .vd < 8)))) ⌝ }
-    ensures { λ _. ⌜ now (image .exit) ≡ Rows.storing (now (image .entry)) (λ L. Rules.lut i (laneIn (now (image .entry)) L)) ⌝ }
+fn lut_direct(image: &mut [u32], i: Insn, go: &[u32; 128], x: &[f32; 32], stores: &mut [u32])
+    requires { ⌜ (length (now image) ≡ 768) × (Rows.Enabled (now go) (now image) × (LutRows.Numbers (λ L. LutRows.resultIn (laneIn (now image) L)) (now x) × ((has (i .md) 8 ≡ false) × ((i .vd < 8) × Steps.Room 24 (now stores))))) ⌝ }
+    ensures { λ _. ⌜ (now (image .exit) ≡ Rows.storing (now (image .entry)) (λ L. Rules.lut i (laneIn (now (image .entry)) L))) × (now (stores .exit) ≡ Steps.counted (now (stores .entry)) (λ L. registerStores (Rules.lut i (laneIn (now (image .entry)) L)))) ⌝ }
 {
     let r3 = slot_row(image, 3);
     let old = slot_row(image, i.vd as usize);
     answer_rows(image, i.md, i.vd, &r3, &old, x, go);
+    count_marked(go, 0, 1, stores);
 }
 
 // LUT over all lanes.
-pub(crate) fn lut(image: &mut [u32], i: Insn, go: &[u32; 128])
-    requires { ⌜ (length (now image) ≡ 768) × Rows.Enabled (now go) (now image) ⌝ }
-    ensures { λ _. ⌜ now (image .exit) ≡ Rows.storing (now (image .entry)) (λ L. Rules.lut i (laneIn (now (image .entry)) L)) ⌝ }
+pub(crate) fn lut(image: &mut [u32], i: Insn, go: &[u32; 128], stores: &mut [u32])
+    requires { ⌜ (length (now image) ≡ 768) × (Rows.Enabled (now go) (now image) × Steps.Room 24 (now stores)) ⌝ }
+    ensures { λ _. ⌜ (now (image .exit) ≡ Rows.storing (now (image .entry)) (λ L. Rules.lut i (laneIn (now (image .entry)) L))) × (now (stores .exit) ≡ Steps.counted (now (stores .entry)) (λ L. registerStores (Rules.lut i (laneIn (now (image .entry)) L)))) ⌝ }
 {
     let named = i.md / 8 % 2 == 1;
     if named | (i.vd < 8) {
         let x = results(image);
         if named {
-            lut_named(image, i, go, &x);
+            lut_named(image, i, go, &x, stores);
         } else {
-            lut_direct(image, i, go, &x);
+            lut_direct(image, i, go, &x, stores);
         }
     }
 }

@@ -1,5 +1,6 @@
 // One instruction over all lanes, and a run: all is checked before the first step.
 use crate::Ended;
+use crate::Onward;
 use crate::Outcome;
 use crate::checks::run_answer;
 use crate::compute::exexp;
@@ -15,6 +16,10 @@ use crate::rows::enabled_row;
 use crate::rows::fixed_rows;
 use crate::store::store;
 use crate::swap::swap;
+use crate::traffic::count_enabled;
+use crate::traffic::once;
+use crate::traffic::sets_flags;
+use crate::traffic::settle;
 use lane::Insn;
 use lane::Settings;
 use lane::load::address;
@@ -23,16 +28,34 @@ use lane::load::next_cursor;
 use lane::load::stride;
 ghost use mathlib.Core.Path.{_≡_};
 ghost use mathlib.Core.Bool.{true, false};
-ghost use Prim.Native.Nat.{_*_, _<_, _≤_};
+ghost use Prim.Native.Nat.{ℕ, _+_, _*_, _<_, _≤_};
 ghost use lib.ListN.{length};
 ghost use Rattle.lane.specs.Load as Load;
 ghost use Rattle.runner.specs.Checks as Checks;
 ghost use Rattle.runner.specs.Run as Run;
 ghost use Rattle.runner.specs.PrivateRows as Rows;
+ghost use Rattle.runner.specs.PrivateCompute as Compute;
 ghost use Rattle.runner.specs.PrivateSteps as Steps;
 
-// Any instruction that does not meet Dst, in every lane. `go` are the run's rows of masks, `fixed` the rows of the registers never stored, `ties` the columns'
-// counts. The op is a constant where one function serves several.
+// An operation that stores once in each lane that is enabled, where vd is stored to, and leaves the flags. The op is a constant where one function serves several.
+fn step_noted(i: Insn, image: &mut [u32], go: &[u32; 128], fixed: &[u32; 128])
+    requires { ⌜ (length (now image) ≡ 768) × (Rows.Enabled (now go) (now image) × ((now fixed ≡ Rows.fixedRows) × Steps.IsNoted (i .op))) ⌝ }
+    ensures { λ _. ⌜ Steps.Noted i (now (image .entry)) (now (image .exit)) (now (go .entry)) ⌝ }
+{
+    let op = i.op;
+    match op {
+        2 => loadi(image, i, go),
+        7 => valued(image, 7, i, go, fixed),
+        8 => valued(image, 8, i, go, fixed),
+        9 => valued(image, 9, i, go, fixed),
+        10 => valued(image, 10, i, go, fixed),
+        11 => valued(image, 11, i, go, fixed),
+        _ => valued(image, 14, i, go, fixed),
+    }
+}
+
+// Any instruction that does not meet Dst and sets no flags, in every lane; the stores that are owed after it. `go` are the run's rows of masks, `fixed` the rows of
+// the registers never stored, `ties` and `stores` the columns' counts.
 fn step_stored(
     s: Settings,
     i: Insn,
@@ -40,26 +63,36 @@ fn step_stored(
     go: &mut [u32; 128],
     fixed: &[u32; 128],
     ties: &mut [u32],
-)
-    requires { ⌜ (length (now image) ≡ 768) × (Rows.Enabled (now go) (now image) × ((now fixed ≡ Rows.fixedRows) × (Steps.Room (now ties) × (Load.meetsDst (i .op) ≡ false)))) ⌝ }
-    ensures { λ _. ⌜ Steps.Stored s i (now (image .entry)) (now (image .exit)) (now (go .exit)) (now (ties .entry)) (now (ties .exit)) ⌝ }
+    owed: u32,
+    stores: &mut [u32],
+) -> u32
+    requires { ⌜ (length (now image) ≡ 768) × (Rows.Enabled (now go) (now image) × ((now fixed ≡ Rows.fixedRows) × ((Steps.Room 4 (now ties) × Steps.Room (4 * owed + 28) (now stores)) × ((Load.meetsDst (i .op) ≡ false) × (Compute.setsFlags (i .op) ≡ false))))) ⌝ }
+    ensures { λ r. ⌜ Steps.Stored s i (now (image .entry)) (now (image .exit)) (now (go .exit)) (now (ties .entry)) (now (ties .exit)) owed (now (stores .entry)) r (now (stores .exit)) ⌝ }
 {
     let op = i.op;
     match op {
-        2 => loadi(image, i, go),
-        3 => lut(image, i, go),
-        4 => swap(image, i, go, fixed, ties),
-        5 => config(image, s.edition, i),
-        6 => iadd(image, i, go, fixed),
-        7 => valued(image, 7, i, go, fixed),
-        8 => valued(image, 8, i, go, fixed),
-        9 => valued(image, 9, i, go, fixed),
-        10 => valued(image, 10, i, go, fixed),
-        11 => valued(image, 11, i, go, fixed),
-        12 => lz(image, i, go, fixed),
-        13 => exexp(image, i, go, fixed),
+        3 => lut(image, i, go, stores),
+        4 => swap(image, i, go, fixed, ties, stores),
+        5 => config(image, s.edition, i, stores),
         15 => {}
-        _ => valued(image, 14, i, go, fixed),
+        _ => {
+            step_noted(i, image, go, fixed);
+            return owed + once(i.vd);
+        }
+    }
+    owed
+}
+
+// IADD, LZ or EXEXP in every lane: they keep up the masks of the lanes that are enabled.
+fn step_flagged(i: Insn, image: &mut [u32], go: &mut [u32; 128], fixed: &[u32; 128])
+    requires { ⌜ (length (now image) ≡ 768) × (Rows.Enabled (now go) (now image) × ((now fixed ≡ Rows.fixedRows) × (Compute.setsFlags (i .op) ≡ true))) ⌝ }
+    ensures { λ _. ⌜ Steps.Flagged i (now (image .entry)) (now (image .exit)) (now (go .exit)) ⌝ }
+{
+    let op = i.op;
+    match op {
+        6 => iadd(image, i, go, fixed),
+        12 => lz(image, i, go, fixed),
+        _ => exexp(image, i, go, fixed),
     }
 }
 
@@ -72,18 +105,19 @@ fn step_dst(
     dst: &mut [u16],
     go: &[u32; 128],
     fixed: &[u32; 128],
+    stores: &mut [u32],
 )
-    requires { ⌜ (length (now image) ≡ 768) × ((length (now dst) ≡ 16384) × (Rows.Enabled (now go) (now image) × ((now fixed ≡ Rows.fixedRows) × ((a < 1024) × (Load.meetsDst (i .op) ≡ true))))) ⌝ }
-    ensures { λ _. ⌜ Steps.Met s i a (now (image .entry)) (now (dst .entry)) (now (image .exit)) (now (dst .exit)) (now (go .entry)) ⌝ }
+    requires { ⌜ (length (now image) ≡ 768) × ((length (now dst) ≡ 16384) × (Rows.Enabled (now go) (now image) × ((now fixed ≡ Rows.fixedRows) × (((a < 1024) × Steps.Room 24 (now stores)) × (Load.meetsDst (i .op) ≡ true))))) ⌝ }
+    ensures { λ _. ⌜ ((owed : ℕ) → Steps.Met s i a (now (image .entry)) (now (dst .entry)) (now (image .exit)) (now (dst .exit)) (now (go .entry)) owed (now (stores .entry)) (now (stores .exit))) ⌝ }
 {
     if i.op == 1 {
-        load(image, dst, s.srcb, a, i, go);
+        load(image, dst, s.srcb, a, i, go, stores);
         return;
     }
     store(image, dst, a, i, go, fixed);
 }
 
-// One instruction, in every lane; the cursor after it.
+// One instruction, in every lane; the cursor after it, and the stores that are owed. Before the lanes that are enabled may change, what is owed to them is counted.
 fn step_lanes(
     s: Settings,
     i: Insn,
@@ -93,20 +127,31 @@ fn step_lanes(
     go: &mut [u32; 128],
     fixed: &[u32; 128],
     ties: &mut [u32],
-) -> u32
-    requires { ⌜ (length (now image) ≡ 768) × ((length (now dst) ≡ 16384) × (Rows.Enabled (now go) (now image) × ((now fixed ≡ Rows.fixedRows) × Steps.Room (now ties)))) ⌝ }
-    ensures { λ r. ⌜ Steps.Left s i cursor (now (image .entry)) (now (dst .entry)) (now (ties .entry)) r (now (image .exit)) (now (dst .exit)) (now (go .exit)) (now (ties .exit)) ⌝ }
+    owed: u32,
+    stores: &mut [u32],
+) -> Onward
+    requires { ⌜ (length (now image) ≡ 768) × ((length (now dst) ≡ 16384) × (Rows.Enabled (now go) (now image) × ((now fixed ≡ Rows.fixedRows) × (Steps.Room 4 (now ties) × Steps.Room (4 * owed + 28) (now stores))))) ⌝ }
+    ensures { λ r. ⌜ Steps.Left s i cursor (now (image .entry)) (now (dst .entry)) (now (ties .entry)) owed (now (stores .entry)) r (now (image .exit)) (now (dst .exit)) (now (go .exit)) (now (ties .exit)) (now (stores .exit)) ⌝ }
 {
     if meets_dst(i.op) {
         let a = address(i.imm, s.offset, cursor);
-        step_dst(s, i, a, image, dst, go, fixed);
-        return next_cursor(i.op, cursor, stride(s, i.vb));
+        step_dst(s, i, a, image, dst, go, fixed, stores);
+        return Onward {
+            cursor: next_cursor(i.op, cursor, stride(s, i.vb)),
+            owed,
+        };
     }
-    step_stored(s, i, image, go, fixed, ties);
-    cursor
+    if sets_flags(i.op) {
+        settle(i.vd, owed, go, stores);
+        step_flagged(i, image, go, fixed);
+        return Onward { cursor, owed: 0 };
+    }
+    let due = step_stored(s, i, image, go, fixed, ties, owed, stores);
+    Onward { cursor, owed: due }
 }
 
-// All instructions of a list in turn, from a cursor; the cursor after them, and the ties that they met. What lasts through them is made once.
+// All instructions of a list in turn, from a cursor; the cursor after them, the ties that they met, and the stores that they made. What lasts through them is made
+// once; `owed` are the stores that the counters lack of each lane that is enabled.
 pub(crate) fn step_all(
     s: Settings,
     cursor: u32,
@@ -115,17 +160,19 @@ pub(crate) fn step_all(
     list: &[u32],
 ) -> Ended
     requires { ⌜ (length (now image) ≡ 768) × ((length (now dst) ≡ 16384) × (length (now list) ≤ 6 * Checks.listLimit)) ⌝ }
-    ensures { λ r. ⌜ Steps.Through s cursor (now (image .entry)) (now (dst .entry)) (now (list .entry)) (r .cursor) (now (image .exit)) (now (dst .exit)) (r .ties) ⌝ }
+    ensures { λ r. ⌜ Steps.Through s cursor (now (image .entry)) (now (dst .entry)) (now (list .entry)) (r .cursor) (now (image .exit)) (now (dst .exit)) (r .ties) (r .stores) ⌝ }
 {
     let count = list.len() / 6;
     let mut go = [0u32; 128];
     enabled_row(image, &mut go);
     let fixed = fixed_rows();
     let mut ties = [0u32; 8];
+    let mut stores = [0u32; 8];
+    let mut owed: u32 = 0;
     let mut at = cursor;
     let mut k: usize = 0;
     while k < count {
-        at = step_lanes(
+        let next = step_lanes(
             s,
             insn_at(list, k),
             at,
@@ -134,13 +181,22 @@ pub(crate) fn step_all(
             &mut go,
             &fixed,
             &mut ties,
+            owed,
+            &mut stores,
         );
+        at = next.cursor;
+        owed = next.owed;
         k += 1;
     }
-    Ended { cursor: at, ties }
+    count_enabled(&go, owed, &mut stores);
+    Ended {
+        cursor: at,
+        ties,
+        stores,
+    }
 }
 
-// A run of a list over an image and a Dst: a refusal leaves both untouched, and has no ties.
+// A run of a list over an image and a Dst: a refusal leaves both untouched, and counts nothing.
 pub fn run(s: Settings, image: &mut [u32], dst: &mut [u16], list: &[u32]) -> Outcome
     ensures { λ r. ⌜ Run.Ran s (now (image .entry)) (now (dst .entry)) (now (list .entry)) r (now (image .exit)) (now (dst .exit)) ⌝ }
 {
@@ -149,12 +205,14 @@ pub fn run(s: Settings, image: &mut [u32], dst: &mut [u16], list: &[u32]) -> Out
     if answer == 0 {
         let ended = step_all(s, s.cursor, image, dst, list);
         let ties = ended.ties;
+        let stores = ended.stores;
         return Outcome {
             answer: 0,
             steps: (list.len() / 6) as u32,
             place: 0,
             cursor: ended.cursor,
             ties,
+            stores,
         };
     }
     Outcome {
@@ -163,5 +221,6 @@ pub fn run(s: Settings, image: &mut [u32], dst: &mut [u16], list: &[u32]) -> Out
         place: found.place,
         cursor: s.cursor,
         ties: [0u32; 8],
+        stores: [0u32; 8],
     }
 }

@@ -6,6 +6,7 @@ use crate::rows::put;
 use crate::rows::source;
 use crate::rows::word_at;
 use crate::ties::count_ties;
+use crate::traffic::count_marked;
 use lane::Insn;
 use lane::swap::compared;
 use lane::swap::in_mask;
@@ -16,8 +17,7 @@ ghost use mathlib.Core.Path.{_≡_};
 ghost use mathlib.Core.Bool.{Bool, _&&_, _||_};
 ghost use Prim.Native.Nat.{_+_, _<_, _≤_};
 ghost use lib.ListN.{length, getD};
-ghost use lib.Dec.{eqb, ltb};
-ghost use Rattle.lane.specs.Words.{bit, enabled, flagOf, reg};
+ghost use Rattle.lane.specs.Words.{bit, enabled, flagOf, reg, registerStores};
 ghost use Rattle.lane.specs.Swap as Rules;
 ghost use Rattle.runner.specs.Image.{laneIn};
 ghost use Rattle.runner.specs.PrivateRows as Rows;
@@ -73,7 +73,7 @@ fn swap_masks(
 // The same for an instruction. Each call but the last has constants for the tests, so that each has a loop of its own once compiled.
 fn masks_of(image: &[u32], i: Insn, c: &[u32; 32], d: &[u32; 32], t: &mut [u32]) -> u32
     requires { ⌜ (length (now image) ≡ 768) × Rows.Enabled (now t) (now image) ⌝ }
-    ensures { λ r. ⌜ (now (t .exit) ≡ Swaps.maskRows (λ L. enabled (laneIn (now (image .entry)) L)) (λ L. Swaps.swapsBy (eqb (i .md) 0) (ltb (i .vd) 12) (Rules.maskOf (i .md)) L (getD (now (c .entry)) L 0) (getD (now (d .entry)) L 0) (laneIn (now (image .entry)) L)) (λ L. bit (laneIn (now (image .entry)) L 12) 2)) × (r ≡ 0 → Swaps.NoIndex (now (t .exit))) ⌝ }
+    ensures { λ r. ⌜ (now (t .exit) ≡ Swaps.swapRows i (now (c .entry)) (now (d .entry)) (now (image .entry))) × (r ≡ 0 → Swaps.NoIndex (now (t .exit))) ⌝ }
 {
     if i.vd < 12 {
         if i.md == 0 {
@@ -144,30 +144,70 @@ fn store_both(image: &mut [u32], i: Insn, c: &[u32; 32], d: &[u32; 32], t: &[u32
     }
 }
 
-// SWAP over all lanes. `t` are the run's rows of masks: the first stays, and the other three are written. Ties are counted first, from the rows as they were;
-// a register with itself is one in every lane that acts, and nothing is stored.
-pub(crate) fn swap(
-    image: &mut [u32],
-    i: Insn,
-    t: &mut [u32; 128],
-    fixed: &[u32; 128],
-    ties: &mut [u32],
-)
-    requires { ⌜ (length (now image) ≡ 768) × (Rows.Enabled (now t) (now image) × ((now fixed ≡ Rows.fixedRows) × Steps.Room (now ties))) ⌝ }
-    ensures { λ _. ⌜ (now (image .exit) ≡ Rows.storing (now (image .entry)) (λ L. Rules.swap i L (laneIn (now (image .entry)) L))) × (Rows.Enabled (now (t .exit)) (now (image .exit)) × (now (ties .exit) ≡ Steps.counted (now (ties .entry)) (λ L. flagOf (Rules.tied i L (laneIn (now (image .entry)) L))))) ⌝ }
+// How many stores a swap makes to register r, only below 8.
+fn count_to(r: u32, t: &[u32; 128], stores: &mut [u32])
+    requires { ⌜ Rows.Masks 128 (now t) × Steps.Room 4 (now stores) ⌝ }
+    ensures { λ _. ⌜ now (stores .exit) ≡ Steps.counted (now (stores .entry)) (Swaps.countTo r (now (t .entry))) ⌝ }
 {
-    let c = source(image, fixed, i.vc);
-    let d = source(image, fixed, i.vd);
-    count_ties(image, i, t, &c, &d, ties);
+    if r < 8 {
+        count_marked(t, masks_at(r), 1, stores);
+    }
+}
+
+// The two stores of each exchange of the index registers, of which there are none where `seen` is 0.
+fn count_exchanges(t: &[u32; 128], seen: u32, stores: &mut [u32])
+    requires { ⌜ Rows.Masks 128 (now t) × ((seen ≡ 0 → Swaps.NoIndex (now t)) × Steps.Room 8 (now stores)) ⌝ }
+    ensures { λ _. ⌜ now (stores .exit) ≡ Steps.counted (now (stores .entry)) (Swaps.countExchanged (now (t .entry))) ⌝ }
+{
+    if seen != 0 {
+        count_marked(t, 96, 2, stores);
+    }
+}
+
+// The stores of a swap, by its rows of masks.
+fn count_swaps(i: Insn, t: &[u32; 128], seen: u32, stores: &mut [u32])
+    requires { ⌜ Rows.Masks 128 (now t) × ((seen ≡ 0 → Swaps.NoIndex (now t)) × Steps.Room 24 (now stores)) ⌝ }
+    ensures { λ _. ⌜ now (stores .exit) ≡ Steps.counted (now (stores .entry)) (Swaps.swapCount i (now (t .entry))) ⌝ }
+{
+    count_exchanges(t, seen, stores);
+    count_to(i.vc, t, stores);
+    count_to(i.vd, t, stores);
+}
+
+// The stores to vc and vd, then the exchange of the index registers, which `seen` is 0 without. A register with itself is left as it is.
+fn store_swaps(image: &mut [u32], i: Insn, c: &[u32; 32], d: &[u32; 32], t: &[u32; 128], seen: u32)
+    requires { ⌜ (length (now image) ≡ 768) × ((now t ≡ Swaps.swapRows i (now c) (now d) (now image)) × ((seen ≡ 0 → Swaps.NoIndex (now t)) × ((now c ≡ Rows.row (λ L. reg L (laneIn (now image) L) (i .vc))) × (now d ≡ Rows.row (λ L. reg L (laneIn (now image) L) (i .vd)))))) ⌝ }
+    ensures { λ _. ⌜ now (image .exit) ≡ Rows.storing (now (image .entry)) (λ L. Rules.swap i L (laneIn (now (image .entry)) L)) ⌝ }
+{
     if i.vc == i.vd {
         return;
     }
-    let seen = masks_of(image, i, &c, &d, t);
-    store_both(image, i, &c, &d, t);
+    store_both(image, i, c, d, t);
     let p = (4 + i.vc % 4) as usize;
     let q = (4 + i.vd % 4) as usize;
     let exchanges = (p != q) & (seen != 0);
     if exchanges {
         exchange(image, p, q, t, 96, 96);
     }
+}
+
+// SWAP over all lanes. `t` are the run's rows of masks: the first stays, and the other three are written. Ties are counted first, from the rows as they were; a
+// register with itself is one in every lane that acts, and its stores are counted, though nothing is stored.
+pub(crate) fn swap(
+    image: &mut [u32],
+    i: Insn,
+    t: &mut [u32; 128],
+    fixed: &[u32; 128],
+    ties: &mut [u32],
+    stores: &mut [u32],
+)
+    requires { ⌜ (length (now image) ≡ 768) × (Rows.Enabled (now t) (now image) × ((now fixed ≡ Rows.fixedRows) × (Steps.Room 4 (now ties) × Steps.Room 24 (now stores)))) ⌝ }
+    ensures { λ _. ⌜ (now (image .exit) ≡ Rows.storing (now (image .entry)) (λ L. Rules.swap i L (laneIn (now (image .entry)) L))) × (Rows.Enabled (now (t .exit)) (now (image .exit)) × ((now (ties .exit) ≡ Steps.counted (now (ties .entry)) (λ L. flagOf (Rules.tied i L (laneIn (now (image .entry)) L)))) × (now (stores .exit) ≡ Steps.counted (now (stores .entry)) (λ L. registerStores (Rules.swap i L (laneIn (now (image .entry)) L)))))) ⌝ }
+{
+    let c = source(image, fixed, i.vc);
+    let d = source(image, fixed, i.vd);
+    count_ties(image, i, t, &c, &d, ties);
+    let seen = masks_of(image, i, &c, &d, t);
+    store_swaps(image, i, &c, &d, t, seen);
+    count_swaps(i, t, seen, stores);
 }

@@ -41,7 +41,7 @@ fn count_columns(
     d: &[u32; 32],
     ties: &mut [u32],
 )
-    requires { ⌜ (length (now image) ≡ 768) × (Rows.Enabled (now go) (now image) × Steps.Room (now ties)) ⌝ }
+    requires { ⌜ (length (now image) ≡ 768) × (Rows.Enabled (now go) (now image) × Steps.Room 4 (now ties)) ⌝ }
     ensures { λ _. ⌜ now (ties .exit) ≡ Steps.counted (now (ties .entry)) (λ L. flagOf (Swaps.tiedBy free (getD (now (c .entry)) L 0) (getD (now (d .entry)) L 0) (laneIn (now (image .entry)) L))) ⌝ }
 {
     let mut j: usize = 0;
@@ -64,7 +64,7 @@ pub(crate) fn count_ties(
     d: &[u32; 32],
     ties: &mut [u32],
 )
-    requires { ⌜ (length (now image) ≡ 768) × (Rows.Enabled (now go) (now image) × (Steps.Room (now ties) × ((now c ≡ Rows.row (λ L. reg L (laneIn (now image) L) (i .vc))) × (now d ≡ Rows.row (λ L. reg L (laneIn (now image) L) (i .vd)))))) ⌝ }
+    requires { ⌜ (length (now image) ≡ 768) × (Rows.Enabled (now go) (now image) × (Steps.Room 4 (now ties) × ((now c ≡ Rows.row (λ L. reg L (laneIn (now image) L) (i .vc))) × (now d ≡ Rows.row (λ L. reg L (laneIn (now image) L) (i .vd)))))) ⌝ }
     ensures { λ _. ⌜ now (ties .exit) ≡ Steps.counted (now (ties .entry)) (λ L. flagOf (Rules.tied i L (laneIn (now (image .entry)) L))) ⌝ }
 {
     if i.md != 0 {

@@ -14,7 +14,7 @@ use crate::made::make_list;
 use host::replay_run;
 
 fn run_and_print(settings: &[u32; 8], image: &mut [u32], dst: &mut [u16], list: &[u32]) {
-    let mut outcome = [0u32; 12];
+    let mut outcome = [0u32; 20];
     replay_run(settings, image, dst, list, &mut outcome);
     print(1, &outcome, cell_checksum(checksum(NOTHING, image), dst));
 }

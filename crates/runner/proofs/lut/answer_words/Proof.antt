@@ -26,7 +26,7 @@ word-at-requires-2 : tie.Need-word-at-requires-2 Inv-loop μ-loop
 word-at-requires-2 c κs = (c .before .before .before .before .before .pre .0, (omega arith, c .before .before .loop-test .taken))
 
 loop-again : tie.Need-loop-again Inv-loop μ-loop
-loop-again c = let a = c .before .before .before .before .before .before .before .before .before .before .before .before .before .args in let n = c .before .before .before .before .before .before .before .before .before .before .before .loop .n in let answer = answer-by (a .i .vd) (laneIn (a .image .now) n) _ _ _ _ _ (c .before .before .before .before .before .before .before .before .word-at .ensures) (c .before .before .before .before .before .before .before .word-at2 .ensures) (c .before .before .before .before .before .before .before .before .before .before .before .before .before .pre .1 .mask-is n (c .before .before .before .before .before .before .before .before .before .before .loop-test .taken)) (c .before .before .before .before .lut-answer .ensures) in laid-more _ _ _ _ _ _ (c .before .before .before .before .before .before .before .before .before .before .loop-test .taken) (c .before .before .before .before .before .before .before .before .before .before .before .loop .inv) (rw answer at (c .before .answer-word .ensures)) (rw answer at (c .answer-slot .ensures (a .i .md) (getD (a .r3 .now) n 0)))
+loop-again c = let a = c .before .before .before .before .before .before .before .before .before .before .before .before .before .before .args in let n = c .before .before .before .before .before .before .before .before .before .before .before .before .loop .n in let answer = answer-by (a .i .vd) (laneIn (a .image .now) n) _ _ _ _ _ (c .before .before .before .before .before .before .before .before .before .word-at .ensures) (c .before .before .before .before .before .before .before .before .word-at2 .ensures) (c .before .before .before .before .before .before .before .before .before .before .before .before .before .before .pre .1 .mask-is n (c .before .before .before .before .before .before .before .before .before .before .before .loop-test .taken)) (c .before .before .before .before .before .lut-answer .ensures) in laid-more _ _ _ _ _ _ _ (c .before .before .before .before .before .before .before .before .before .before .before .loop-test .taken) (c .before .before .before .before .before .before .before .before .before .before .before .before .loop .inv) (rw answer at (c .before .before .answer-word .ensures)) (rw answer at (c .before .answer-slot .ensures (a .i .md) (getD (a .r3 .now) n 0))) (rw answer at (c .answer-mark .ensures (a .i .md) (getD (a .r3 .now) n 0)))
 
 returns : tie.Need-returns Inv-loop μ-loop
 returns c = λ L l. c .before .loop .inv .answers L (omega arith)
@@ -37,5 +37,5 @@ answer-words-spec =
     (tie.spec
     Inv-loop μ-loop loop-holds word-at-requires word-at-requires-2 (λ c. search needs) (λ c. search needs) (λ c. search needs) (λ c. search needs)
     (λ c κs. search needs) (λ c. search needs) (λ c. search needs) (λ c. search needs) (λ c. search needs) (λ c κs. search needs)
-    (λ c. search needs) (λ c. search needs) (λ c κs. search needs) (λ c. search needs) (λ c. search needs) (λ c. search needs) (λ c. omega arith)
-    (λ c. omega arith) loop-again returns)
+    (λ c. search needs) (λ c. search needs) (λ c κs. search needs) (λ c. search needs) (λ c. search needs) (λ c. search needs) (λ c κs. search needs)
+    (λ c. search needs) (λ c. search needs) (λ c. search needs) (λ c. omega arith) (λ c. omega arith) loop-again returns)

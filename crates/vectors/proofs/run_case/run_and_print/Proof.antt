@@ -1,8 +1,8 @@
--- `run_and_print`: the outcome is twelve words, by what `replay_run` promises.
+-- `run_and_print`: the outcome is twenty words, by what `replay_run` promises.
 use borrow.Author.Needs.{needs}
 use mathlib.Core.Path.{sym, ap, _∙_}
 use lib.ListN.{length}
-use Rattle.host.proofs.Lengths.{twelve-words}
+use Rattle.host.proofs.Lengths.{twenty-words}
 use Rattle.vectors.proofs.run_case.run_and_print.Statement.{statement}
 use Rattle.vectors.proofs.run_case.run_and_print.Tie as tie
 
@@ -10,7 +10,7 @@ replay-run-requires : tie.Need-replay-run-requires
 replay-run-requires c κs = search needs
 
 slice-aggregate-print : tie.Need-slice-aggregate-print
-slice-aggregate-print c = sym (ap length (c .before .before .before .before .before .replay-run .ensures .1 .0) ∙ twelve-words _ _ _ _)
+slice-aggregate-print c = sym (ap length (c .before .before .before .before .before .replay-run .ensures .1 .0) ∙ twenty-words _ _ _ _)
 
 checksum-requires : tie.Need-checksum-requires
 checksum-requires c κs = search needs
