@@ -3,7 +3,9 @@
  * Every loop goes over a row of 32 lanes and has no branch: what the instruction decides is decided before it, and what a lane does not do
  * is masked out. Compilers make vectors of such loops. A truth about a lane is therefore a mask: 0, or all ones.
  *
- * Image and Dst are worked on where they lie, save for the image's flags, which are masks during a run. */
+ * Image and Dst are worked on where they lie, save for the image's flags, which are masks during a run.
+ *
+ * Under STEPS_ONLY, for walks, nothing is counted: neither ties nor stores. */
 #include "plain.h"
 
 #include <stdbool.h>
@@ -23,10 +25,19 @@ typedef uint32_t row[LANES];
 #define BY_ROWS(a, b, c, d) { EIGHT(a), EIGHT(b), EIGHT(c), EIGHT(d) }
 #define ALL(w) BY_ROWS(w, w, w, w)
 
+#ifdef STEPS_ONLY
+enum { COUNTS = false };
+#else
+enum { COUNTS = true };
+#endif
+
 struct run {
     _Alignas(64) row flag, free, on;    /* LaneFlag is 1, UseFlag is 0, and either: enabled. So a lane that is not enabled has flag 0. */
-    row ties;                           /* how often a lane met an equal pair in a SWAP with mod other than 0 */
     row idle[2];                        /* takes what SWAP would store to registers that are never stored */
+    uint32_t ties[COLUMNS];             /* how often lanes met an equal pair in a SWAP with mod other than 0 */
+    uint32_t stores[3][COLUMNS];        /* how often lanes made no store, one, or two at once */
+    uint32_t owed, loads, captures;     /* not yet counted: what stores once in each enabled lane, LOADs, and LOADs with vd below 4 */
+    bool by_flag;                       /* a lane may be enabled by its flag alone */
     uint32_t *image;
     const uint32_t *reg[16];            /* the row of each register */
     uint16_t *dst;
@@ -34,14 +45,19 @@ struct run {
     uint32_t edition, srcb, offset, cursor;
 };
 
-/* In no loop does a lane need a word that another lane stores, even where two operands are one row. Compilers have to be told. */
+/* In no loop does a lane need a word that another lane stores, even where two operands are one row. Compilers have to be told. And gcc is not
+ * to unroll the eight columns: it would do so before it comes to vectors, and at times keep single words. */
 #if defined __clang__
 #define EACH(count, n) _Pragma("clang loop vectorize(assume_safety) interleave_count(2) unroll(disable)") for (unsigned n = 0; n < count; n++)
+#define EACH_COLUMN(j) EACH(COLUMNS, j)
 #else
 #define EACH(count, n) _Pragma("GCC ivdep") for (unsigned n = 0; n < count; n++)
+#define EACH_COLUMN(j) _Pragma("GCC unroll 1") EACH(COLUMNS, j)
 #endif
 #define EACH_LANE(n) EACH(LANES, n)
-#define EACH_COLUMN(j) EACH(COLUMNS, j)
+
+/* For SWAP: gcc would else leave it by itself, and its loops with the branches that constants take out. */
+#define INLINE static inline __attribute__((always_inline))
 
 static inline uint32_t *at(const struct run *r, unsigned slot) { return r->image + LANES * slot; }
 
@@ -61,6 +77,63 @@ static inline uint32_t pick(uint32_t mask, uint32_t yes, uint32_t no) { return n
 static inline uint32_t negated(uint32_t mask, uint32_t word) { return (word ^ mask) - mask; }
 
 union bits { uint32_t word; float number; };
+
+/* Counts
+ *
+ * Most operations store once in each enabled lane, and LOAD as LaneConfig says besides. These are only noted, by one number for all lanes, and
+ * counted at once: at the end, and before flags or LaneConfig change. A lane that is not enabled stays so for the rest of a run, so that
+ * flags change nothing any more once no lane is enabled by its flag alone. SWAP, LUT by register 7 and CONFIG count by their masks. */
+
+static inline uint32_t of_column(const uint32_t *lanes, unsigned j) { return lanes[j] + lanes[8 + j] + lanes[16 + j] + lanes[24 + j]; }
+
+/* So many stores at once in each lane of a row of masks. A mask is minus 1. */
+static inline void count(struct run *r, unsigned stores, const uint32_t *lanes)
+{
+    uint32_t *counted = r->stores[stores];
+    if (COUNTS) EACH_COLUMN(j) counted[j] -= of_column(lanes, j);
+}
+
+static inline void count_owed(struct run *r)
+{
+    uint32_t owed = r->owed, *counted = r->stores[1];
+    const uint32_t *on = r->on;
+    EACH_COLUMN(j) counted[j] += (on[j] & owed) + (on[8 + j] & owed) + (on[16 + j] & owed) + (on[24 + j] & owed);
+    r->owed = 0;
+}
+
+/* Whether LOAD stores in a lane, and whether it captures the place too. */
+static inline uint32_t takes(uint32_t on, uint32_t config) { return on & ~has(config, BLOCK); }
+static inline uint32_t captures(uint32_t config) { return full((~config & (1 << INDEX | 1 << CAPTURE)) == 0); }
+
+static inline void count_loads(struct run *r)
+{
+    const uint32_t *config = at(r, LANE_CONFIG), loads = 0u - r->loads, captured = 0u - r->captures;    /* as many masks */
+    row stores;
+    EACH_LANE(n) stores[n] = takes(r->on[n], config[n]) & (loads + (captures(config[n]) & captured));
+    count(r, 1, stores);
+    r->loads = r->captures = 0;
+}
+
+static inline void count_before_flags(struct run *r)
+{
+    uint32_t by_flag = 0;
+    count_owed(r);
+    if (r->loads != 0) count_loads(r);
+    EACH_LANE(n) by_flag |= r->flag[n] & ~r->free[n];
+    r->by_flag = by_flag != 0;
+}
+
+/* An operation that stores once in each enabled lane; and one that may change flags, if `changes` is not 0. */
+static inline void note(struct run *r)
+{
+    if (COUNTS) r->owed++;
+}
+
+static inline void note_before_flags(struct run *r, uint32_t changes)
+{
+    note(r);
+    if (COUNTS && __builtin_expect(r->by_flag && changes != 0, false)) count_before_flags(r);
+}
 
 /* LOAD */
 
@@ -101,8 +174,9 @@ static inline void load(struct run *r, const uint32_t *insn)
     EACH_LANE(n) {
         uint32_t both = pair(r->dst + place, n);
         cell[n] = pick(odd[n], both >> 16, both & 0xFFFF);
-        go[n] = r->on[n] & ~has(config[n], BLOCK);
+        go[n] = takes(r->on[n], config[n]);
     }
+    if (COUNTS) r->loads++;
 #define LOAD_AS(value) EACH_LANE(n) d[n] = pick(go[n], value, d[n])
     switch (insn[MOD] == 0 ? r->srcb : insn[MOD]) {
     case 1:  LOAD_AS(fp16(cell[n], config[n])); break;
@@ -117,8 +191,9 @@ static inline void load(struct run *r, const uint32_t *insn)
     default: LOAD_AS(cell[n]); break;      /* 6 and 9 */
     }
     if (vd < 4) {
-        uint32_t *index = at(r, vd + 4), both = 1 << INDEX | 1 << CAPTURE;
-        EACH_LANE(n) index[n] = pick(go[n] & full((config[n] & both) == both), place + 2 * n - odd[n], index[n]);    /* a mask is minus 1 */
+        uint32_t *index = at(r, vd + 4);
+        EACH_LANE(n) index[n] = pick(go[n] & captures(config[n]), place + 2 * n - odd[n], index[n]);    /* a mask is minus 1 */
+        if (COUNTS) r->captures++;
     }
 }
 
@@ -182,17 +257,19 @@ static inline void lut(struct run *r, const uint32_t *insn)
     }
     if (!indirect) {
         uint32_t *d = at(r, vd);
+        note(r);
         EACH_LANE(n) d[n] = pick(r->on[n], result[n], d[n]);
         return;
     }
     /* The register is the lane's own; a lane with nothing to store stores register 0's word again. */
-    row place;
+    row go, place;
     EACH_LANE(n) {
-        uint32_t go = r->on[n] & (open | has(config[n], NO_BACKDOOR)) & ~has(r7[n], 3);
-        place[n] = (r7[n] % 8 * LANES & go) + n;
-        result[n] = pick(go, result[n], r0[n]);
+        go[n] = r->on[n] & (open | has(config[n], NO_BACKDOOR)) & ~has(r7[n], 3);
+        place[n] = (r7[n] % 8 * LANES & go[n]) + n;
+        result[n] = pick(go[n], result[n], r0[n]);
     }
     EACH_LANE(n) r->image[place[n]] = result[n];
+    count(r, 1, go);
 }
 
 /* SWAP */
@@ -207,23 +284,42 @@ static const row minimum[16] = {
 /* Signed numbers in the order of ranks. */
 static inline uint32_t rank(uint32_t word) { return word ^ sign(word) >> 1; }
 
+/* The stores that a swap makes in a lane, and how many more with bit 2: both index registers then, but no longer those of vc and vd that are 4
+ * to 7. */
+static inline unsigned swap_stores(const uint32_t *insn) { return (insn[VC] < 8) + (insn[VD] < 8); }
+static inline unsigned index_stores(const uint32_t *insn) { return (insn[VC] / 4 != 1) + (insn[VD] / 4 != 1); }
+
 /* Called with constants: `always` for mod 0, `open` where vd is below 12. A tie is equal words, as no two words have one rank; its mask is
- * minus 1. */
-static inline void swap_as(struct run *r, const uint32_t *insn, bool always, bool open)
+ * minus 1. A column's four lanes are done together, so that its counts are sums. */
+INLINE void swap_as(struct run *r, const uint32_t *insn, bool always, bool open)
 {
     uint32_t vc = insn[VC], vd = insn[VD], high_c = full(vc >= 4), high_d = full(vd >= 4);
     const uint32_t *c = r->reg[vc], *d = r->reg[vd], *wants = minimum[insn[MOD]], *config = at(r, LANE_CONFIG);
     uint32_t *to_c = vc < 8 ? at(r, vc) : r->idle[0], *to_d = vd < 8 ? at(r, vd) : r->idle[1];
+    uint32_t *swapped = r->stores[swap_stores(insn)], *indexed = r->stores[index_stores(insn)];
     row index;
-    EACH_LANE(n) {
-        uint32_t old_c = c[n], old_d = d[n], go = r->on[n];
-        if (!open) go &= has(config[n], NO_BACKDOOR);
-        if (!always) r->ties[n] -= go & full(old_c == old_d);
-        if (!always) go &= ~(less(rank(old_c), rank(old_d)) ^ wants[n] ^ has(config[n], EXCHANGE));
-        index[n] = go & has(config[n], INDEX);
-        uint32_t change = (old_c ^ old_d) & go;
-        to_c[n] = old_c ^ (change & ~(index[n] & high_c));
-        to_d[n] = old_d ^ (change & ~(index[n] & high_d));
+#define SWAP_LANE(n)                                                                                                \
+    do {                                                                                                            \
+        uint32_t old_c = c[n], old_d = d[n], go = r->on[n];                                                         \
+        if (!open) go &= has(config[n], NO_BACKDOOR);                                                               \
+        if (!always) ties += go & full(old_c == old_d);                                                             \
+        if (!always) go &= ~(less(rank(old_c), rank(old_d)) ^ wants[n] ^ has(config[n], EXCHANGE));                 \
+        uint32_t by_index = go & has(config[n], INDEX), change = (old_c ^ old_d) & go;                              \
+        swaps += go, index_swaps += by_index;                                                                       \
+        index[n] = by_index;                                                                                        \
+        to_c[n] = old_c ^ (change & ~(by_index & high_c));                                                          \
+        to_d[n] = old_d ^ (change & ~(by_index & high_d));                                                          \
+    } while (0)
+    EACH_COLUMN(j) {
+        uint32_t ties = 0, swaps = 0, index_swaps = 0;
+        SWAP_LANE(j);
+        SWAP_LANE(8 + j);
+        SWAP_LANE(16 + j);
+        SWAP_LANE(24 + j);
+        if (!COUNTS) continue;
+        if (!always) r->ties[j] -= ties;
+        swapped[j] -= swaps;
+        indexed[j] -= index_swaps;
     }
     uint32_t *p = at(r, 4 + vc % 4), *q = at(r, 4 + vd % 4);
     if (p == q) return;
@@ -234,17 +330,26 @@ static inline void swap_as(struct run *r, const uint32_t *insn, bool always, boo
     }
 }
 
-/* Of a register with itself nothing moves, and every lane that acts has a tie. */
-static inline void swap_with_itself(struct run *r, const uint32_t *insn)
+/* Of a register with itself nothing moves, and there is only something to count: with mod other than 0 every lane that acts has a tie, and swaps
+ * unless vd wants the minimum. */
+INLINE void swap_with_itself(struct run *r, const uint32_t *insn)
 {
-    const uint32_t *config = at(r, LANE_CONFIG);
-    if (insn[MOD] == 0) return;
-    if (insn[VD] < 12) EACH_LANE(n) r->ties[n] -= r->on[n];
-    else EACH_LANE(n) r->ties[n] -= r->on[n] & has(config[n], NO_BACKDOOR);
+    const uint32_t *config = at(r, LANE_CONFIG), *wants = minimum[insn[MOD]], always = full(insn[MOD] == 0), open = full(insn[VD] < 12);
+    row ties, swaps, index;
+    EACH_LANE(n) {
+        uint32_t acts = r->on[n] & (open | has(config[n], NO_BACKDOOR));
+        ties[n] = acts & ~always;
+        swaps[n] = acts & (always | ~(wants[n] ^ has(config[n], EXCHANGE)));
+        index[n] = swaps[n] & has(config[n], INDEX);
+    }
+    EACH_COLUMN(j) r->ties[j] -= of_column(ties, j);
+    count(r, swap_stores(insn), swaps);
+    count(r, index_stores(insn), index);
 }
 
-static inline void swap(struct run *r, const uint32_t *insn)
+INLINE void swap(struct run *r, const uint32_t *insn)
 {
+    if (insn[VC] == insn[VD] && !COUNTS) return;
     if (insn[VC] == insn[VD]) swap_with_itself(r, insn);
     else if (insn[MOD] != 0 && insn[VD] < 12) swap_as(r, insn, false, true);
     else if (insn[MOD] != 0) swap_as(r, insn, false, false);
@@ -259,6 +364,7 @@ static inline void config(struct run *r, const uint32_t *insn)
     static const uint8_t slots[16] = {TEMPLATE, TEMPLATE + 1, TEMPLATE + 2, TEMPLATE + 3, SEQUENCE, SEQUENCE + 1, SEQUENCE + 2, SEQUENCE + 3,
                                       MISC, 0, 0, R11, R11 + 1, R11 + 2, R11 + 3, LANE_CONFIG};
     static const uint32_t column_bit[COLUMNS] = {1 << 0, 1 << 2, 1 << 4, 1 << 6, 1 << 8, 1 << 10, 1 << 12, 1 << 14};
+    if (COUNTS && r->loads != 0 && insn[VD] == 15) count_loads(r);
     const uint32_t defaults[4] = {0xBF800000, r->edition == 1 ? 0x37800000 : 0x3B000000, 0xBF2CC4C7, 0xBEB08FF9};
     uint32_t vd = insn[VD], mod = insn[MOD], imm = insn[IMM], value = imm, width = 0xFFFFFFFF, way = 0, high = 0, *slot = at(r, slots[vd]);
     bool imm_is_value = mod & 1 && vd >= 4;
@@ -267,6 +373,7 @@ static inline void config(struct run *r, const uint32_t *insn)
     if (vd == 8) width = 0xFFF, way = mod & 6;
     if (vd == 15) width = 0x3FFFF, way = mod & 6, high = imm_is_value ? 0x30000 : 0;
 
+    const uint32_t stores = vd >= 11 && vd < 15 ? 4 : 0;        /* of a column that is not passed over */
     const uint32_t from_imm = full(imm_is_value), all = ~has(mod, 3), ors = full(way == 2), ands = full(way == 4), xors = full(way == 6);
     EACH_COLUMN(j) {
         uint32_t go = r->on[j] & (all | full((imm & column_bit[j]) != 0)), v = pick(from_imm, value, r->image[j]) & width;
@@ -275,6 +382,7 @@ static inline void config(struct run *r, const uint32_t *insn)
         slot[8 + j] = (slot[8 + j] & kept) ^ put;
         slot[16 + j] = (slot[16 + j] & kept) ^ put;
         slot[24 + j] = (slot[24 + j] & kept) ^ put;
+        if (COUNTS) r->stores[1][j] += go & stores;
     }
 }
 
@@ -298,6 +406,7 @@ static inline void config(struct run *r, const uint32_t *insn)
 static inline void loadi(struct run *r, const uint32_t *insn)
 {
     uint32_t *d = at(r, insn[VD]), imm = insn[IMM];
+    note(r);
     if (insn[MOD] == 8) WRITE(imm << 16 | (d[n] & 0x0000FFFF));
     else WRITE((d[n] & 0xFFFF0000) | imm);
 }
@@ -306,6 +415,7 @@ static inline void iadd(struct run *r, const uint32_t *insn)
 {
     uint32_t mod = insn[MOD], *d = at(r, insn[VD]), imm = (insn[IMM] ^ 0x800) - 0x800, sets = ~mod & 4, turns = has(mod, 3);
     const uint32_t *c = r->reg[insn[VC]];
+    note_before_flags(r, sets | turns);
     if (mod & 1) WRITE_AND_FLAG(c[n] + imm, sign(word));
     else if (mod & 2) WRITE_AND_FLAG(c[n] - d[n], sign(word));
     else WRITE_AND_FLAG(c[n] + d[n], sign(word));
@@ -322,6 +432,7 @@ static inline void lz(struct run *r, const uint32_t *insn)
 {
     uint32_t mod = insn[MOD], *d = at(r, insn[VD]), within = mod & 4 ? 0x7FFFFFFF : 0xFFFFFFFF, sets = mod & 2, turns = has(mod, 3);
     const uint32_t *c = r->reg[insn[VC]];
+    note_before_flags(r, sets | turns);
     WRITE_AND_FLAG(leading_zeros(c[n] & within), full(word != 32));
 }
 
@@ -329,6 +440,7 @@ static inline void exexp(struct run *r, const uint32_t *insn)
 {
     uint32_t mod = insn[MOD], *d = at(r, insn[VD]), bias = mod & 1 ? 0 : 127, sets = mod & 2, turns = has(mod, 3);
     const uint32_t *c = r->reg[insn[VC]];
+    note_before_flags(r, sets | turns);
     WRITE_AND_FLAG((c[n] >> 23 & 0xFF) - bias, sign(word));
 }
 
@@ -340,6 +452,7 @@ static inline uint32_t abs_float(uint32_t word) { return word & (0x7FFFFFFF | le
         uint32_t *d = at(r, insn[VD]), mod = insn[MOD];                                 \
         const uint32_t *c = r->reg[insn[VC]], *b = mod ? r->reg[insn[VB]] : d;          \
         (void)b;                                                                        \
+        note(r);                                                                        \
         WRITE(value);                                                                   \
     }
 
@@ -440,7 +553,10 @@ static inline void begin(struct run *r, const uint32_t *settings, uint32_t *imag
     for (unsigned k = 11; k < 15; k++) r->reg[k] = at(r, R11 + k - 11);
     const uint32_t *flag = at(r, LANE_FLAG), *use = at(r, USE_FLAG);
     EACH_LANE(n) r->free[n] = use[n] - 1, put_flag(r, n, 0u - flag[n]);
+    if (!COUNTS) return;
     memcpy(r->ties, register9, sizeof r->ties);     /* zeros, copied: gcc sets a row by rep stos, a tenth of the time of a list of one */
+    memcpy(r->stores, register9, sizeof r->stores);
+    r->owed = r->loads = r->captures = 0, r->by_flag = true;
 }
 
 static inline void end(struct run *r)
@@ -452,16 +568,18 @@ static inline void end(struct run *r)
 #ifndef STEPS_ONLY
 
 uint32_t plain_run(const uint32_t settings[8], uint32_t *image, size_t image_len, uint16_t *dst, size_t dst_len,
-                   const uint32_t *list, size_t list_len, uint32_t outcome[12])
+                   const uint32_t *list, size_t list_len, uint32_t outcome[20])
 {
     uint32_t place = 0, answer = fault(settings, image, image_len, dst_len, list, list_len, list_len, &place), steps = 0, cursor = settings[3];
-    EACH_COLUMN(j) outcome[4 + j] = 0;
+    EACH_COLUMN(j) outcome[4 + j] = outcome[12 + j] = 0;
     if (answer == 0) {
         struct run r;
         begin(&r, settings, image, dst);
         for (size_t i = 0; i < list_len; i += WORDS) step(&r, list + i);
         end(&r);
-        EACH_COLUMN(j) outcome[4 + j] = r.ties[j] + r.ties[8 + j] + r.ties[16 + j] + r.ties[24 + j];
+        count_owed(&r);
+        if (r.loads != 0) count_loads(&r);
+        EACH_COLUMN(j) outcome[4 + j] = r.ties[j], outcome[12 + j] = r.stores[1][j] + 2 * r.stores[2][j];
         steps = (uint32_t)(list_len / WORDS), cursor = r.cursor;
     }
     outcome[0] = answer, outcome[1] = steps, outcome[2] = place, outcome[3] = cursor;

@@ -8,7 +8,7 @@
 #include <stdint.h>
 
 uint32_t plain_run(const uint32_t settings[8], uint32_t *image, size_t image_len, uint16_t *dst, size_t dst_len,
-                   const uint32_t *list, size_t list_len, uint32_t outcome[12]);
+                   const uint32_t *list, size_t list_len, uint32_t outcome[20]);
 uint32_t plain_begin(const uint32_t settings[8], const uint32_t *image, size_t image_len, const uint16_t *dst, size_t dst_len,
                      const uint32_t *list, size_t list_len, uint32_t outcome[4], uint32_t walk[2]);
 uint32_t plain_forward(const uint32_t settings[8], uint32_t *image, size_t image_len, uint16_t *dst, size_t dst_len,

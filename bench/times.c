@@ -9,6 +9,8 @@
 #include <string.h>
 #include <time.h>
 
+_Static_assert(REPLAY_OUTCOME == RUN_OUTCOME, "the library and the independent program give the same words");
+
 double now_ns(void)
 {
     struct timespec t;
@@ -48,17 +50,17 @@ static double several(const struct task *task, unsigned times)
     return (now_ns() - start) / times;
 }
 
-/* All ones, which no tie count comes near: what a run does not write then shows. */
+/* All ones, which no count comes near: what a run does not write then shows. */
 static void spoil(struct state *s) { memset(s->outcome, 0xFF, sizeof s->outcome); }
 
-/* How many words of an outcome a program gives. A commit before M-102 does not write the ties, which is how it is told: of a commit's library
- * the run alone is linked, and no version. */
+/* How many words of an outcome a program gives. A commit before M-102 does not write the ties, and one before M-106 not the stores, which is how
+ * they are told: of a commit's library the run alone is linked, and no version. */
 static unsigned words_given(run_fn *run)
 {
     static struct state s;
     spoil(&s);
     run(list_settings, s.image, LIST_IMAGE, s.dst, LIST_DST, list_settings, 0, s.outcome);
-    return s.outcome[O_TIES] == 0xFFFFFFFF ? O_TIES : OUTCOME;
+    return s.outcome[O_TIES] == 0xFFFFFFFF ? O_TIES : s.outcome[O_STORES] == 0xFFFFFFFF ? O_STORES : OUTCOME;
 }
 
 static void must_agree(const struct program *programs, unsigned count, const struct list *l, enum image_kind kind)

@@ -4,11 +4,14 @@
 
 #include "lists.h"
 
+#include "../include/replay.h"
+
 #include <stddef.h>
 #include <stdint.h>
 
-/* The words of a run's outcome, the ties of the eight columns among them. */
-enum { OUTCOME = 12 };
+/* The words of a run's outcome, the ties and the stores of the eight columns among them. As many as the library writes, or it would write past
+ * the room. */
+enum { OUTCOME = REPLAY_OUTCOME };
 
 /* As replay_run. */
 typedef uint32_t run_fn(const uint32_t settings[8], uint32_t *image, size_t image_len, uint16_t *dst, size_t dst_len,
@@ -22,7 +25,8 @@ struct program {
 /* Times every list, in rounds of about `us` microseconds for each program, and prints a table in Markdown: ns an instruction of each program
  * and the first one's time over each other's, from a mixed image; then the first one's over the second's from a quiet one.
  * Where two programs do not agree, the process ends with a complaint: a fast wrong answer is not a time. Ops that one of them
- * does not know are left out, and lists that are too long for one, and ties that one of them does not count are not compared with it. */
+ * does not know are left out, and lists that are too long for one, and what one of them does not count, ties or stores, is not compared
+ * with it. */
 void print_times(const struct program *programs, unsigned count, unsigned rounds, unsigned us);
 
 double now_ns(void);
