@@ -1,4 +1,4 @@
-// CONFIG over all lanes: a mask and a value for each column, from its lane in row 0, then the 32 lanes once.
+// CONFIG over all lanes: a mask and a value for each column, from its lane in row 0, then the 32 lanes once. To registers 11 to 14 it is counted by its masks.
 use crate::rows::full;
 use crate::rows::put;
 use crate::rows::word_at;

@@ -1,5 +1,5 @@
 // LUT over all lanes: the inputs with the words that serve them, the sums, then each lane's answer and its store. A lane without an answer
-// stores a word of its own again, so that no loop has a branch.
+// stores a word of its own again, so that no loop has a branch; that store is none of the rules', and is not counted.
 use crate::rows::full;
 use crate::rows::put;
 use crate::rows::slot_row;
@@ -137,8 +137,8 @@ fn answer_rows(
     }
 }
 
-// The words of the answers, then their slots, then the masks of whether there is one, where register 7 names the register. Registers 3 and 0 are copied first, as a word of the image
-// that only one case of the answer reads would keep the loop from being vectorised.
+// The words of the answers, then their slots, then the masks of whether there is one, where register 7 names the register. Registers 3 and 0 are copied
+// first, as a word of the image that only one case of the answer reads would keep the loop from being vectorised.
 fn answer_words(
     image: &[u32],
     i: Insn,

@@ -1,5 +1,5 @@
 // SWAP over all lanes: three rows of masks, made in one loop; then the stores to vc and vd; then, where a lane has bit 2 set, the exchange of
-// the registers 4 + vc mod 4 and 4 + vd mod 4.
+// the registers 4 + vc mod 4 and 4 + vd mod 4; then all of them are counted by those masks.
 use crate::rows::full;
 use crate::rows::masked;
 use crate::rows::put;
