@@ -1,16 +1,16 @@
 -- One instruction over all lanes, the steps through a list, and a run. Assumes nothing.
-use mathlib.Core.Path.{_≡_, refl, sym, ap, _∙_}
+use mathlib.Core.Path.{_≡_, refl, sym, ap, _∙_, subst}
 use Prim.Native.Nat.{ℕ, _+_, _*_, _%_, _≤_}
 use native.Mathlib.Numerals.{add-one}
 use native.Mathlib.Omega.{arith}
-use mathlib.Core.Bool.{Bool, true, false, _||_, false≢true}
+use mathlib.Core.Bool.{Bool, true, false, not, _&&_, _||_, false≢true}
 use mathlib.Core.List.{List, []}
 use lib.ListN.{length}
 use lib.Dec.{eqb, ltb}
 use borrow.Author.Tests.{eq-eqb, ne-eqb, eqb-true, eqb-false}
 use Rattle.lane.specs.declared.Settings.{Settings}
 use Rattle.lane.specs.declared.Insn.{Insn}
-use Rattle.lane.specs.Words.{pick, bit, flagOf, Lane, Stores, build, registerStores}
+use Rattle.lane.specs.Words.{pick, bit, has, flagOf, Lane, Stores, build, registerStores}
 use Rattle.lane.specs.Load.{address, nextCursor, meetsDst, load}
 use Rattle.lane.specs.Store.{store}
 use Rattle.lane.specs.Compute.{computes, valueWord, valuedWith, valued}
@@ -25,14 +25,14 @@ use Rattle.runner.specs.Checks.{insnAt, countOf, listLimit, runAnswer}
 use Rattle.runner.specs.Run.{Machine, evenCell, oddCell, withCells, cellsAfter, laneAfter, imageAt, imageAfter, dstAt, dstAfter, cursorAfter, stepped, steps, begin, finish, storesAt, storesIn, tieIn, tiesBy, storesBy, countAfter, noCounts, whenDone, whenRefused, outcomeOf, runImage, runDst, Ran}
 use Rattle.runner.specs.PrivateRows.{storing, MarksAt, Enabled}
 use Rattle.runner.specs.declared.Onward.{Onward}
-use Rattle.runner.specs.PrivateCompute.{setsFlags}
+use Rattle.runner.specs.PrivateCompute.{setsFlags, changesFlags}
 use Rattle.runner.specs.PrivateSteps.{counted, times, enabledIn, withOwed, Tallied, IsNoted, Noted, Flagged, Stored, Met, Left, starting, Through}
 use Rattle.runner.proofs.Accepted.{accepted, given-short}
 use Rattle.runner.proofs.Enabled.{Quiet, quiet-enabled}
 use Rattle.runner.proofs.Quiet.{quiet-load}
 use Rattle.runner.proofs.Lanes.{storing-same, storing-none, length-lanes}
 use Rattle.runner.proofs.Counts.{no-ties, counts-start, counts-more}
-use Rattle.runner.proofs.Tallied.{times-none, counted-itself, noted, settled, nothing-made, tallied-same}
+use Rattle.runner.proofs.Tallied.{times-none, counted-itself, same-masks, noted, by-op, settled, nothing-made, tallied-same}
 use Rattle.runner.proofs.Dsts.{length-cells, cells-same, dst-kept}
 
 -- ---- one instruction
@@ -67,21 +67,33 @@ module _ (i : Insn) (image x go : List ℕ) (made : ℕ → Stores) (p : x ≡ s
   image-of : ((s : Settings) (a : ℕ) (dst : List ℕ) (L : ℕ) → made L ≡ storesAt s i a image dst L) → (s : Settings) (a : ℕ) (dst : List ℕ) → x ≡ imageAt s i a image dst
   image-of h s a dst = p ∙ storing-same image made (storesAt s i a image dst) (λ L l. h s a dst L) ∙ image-at-is s i a image dst
 
-  -- one that sets flags
-  pub flagged-arm : Enabled go x → ((s : Settings) (a : ℕ) (dst : List ℕ) (L : ℕ) → made L ≡ storesAt s i a image dst L) → Flagged i image x go
-  flagged-arm g h = record { image-is = image-of h; enabled-is = g }
+  -- one that may change flags, what was owed to the lanes that were enabled being counted with its own
+  pub flagged-arm : (before : List ℕ) (owed : ℕ) (stores stores′ : List ℕ) → setsFlags (i .op) ≡ true → Enabled before image
+      → ((e : ℕ → Bool) → MarksAt 0 e before → stores′ ≡ counted stores (times (owed + flagOf (ltb (i .vd) 8)) e))
+      → Enabled go x
+      → ((s : Settings) (a : ℕ) (dst : List ℕ) (L : ℕ) → made L ≡ storesAt s i a image dst L)
+      → Flagged i image x go owed stores stores′
+  flagged-arm before owed stores stores′ f b k g h =
+      record { image-is = image-of h; enabled-is = g; stores-are = λ s a dst. settled s i a image dst x before owed stores stores′ f b k }
 
-  -- one that leaves them, and stores once in each lane that is enabled, for vd below 8
+  -- one that leaves the masks, and stores once in each lane that is enabled, for vd below 8
+  pub kept-arm : Enabled go image → Enabled go x → ((L : ℕ) → registerStores (made L) ≡ flagOf (computes (i .vd) (laneIn image L)))
+      → ((s : Settings) (a : ℕ) (dst : List ℕ) (L : ℕ) → made L ≡ storesAt s i a image dst L)
+      → Noted i image x go
+  kept-arm g k c h =
+      record {
+        image-is = image-of h;
+        enabled-is = k;
+        stores-are =
+            λ s a dst owed stores l.
+            stores-of s i a image dst x made owed stores _ stores (h s a dst) (noted image x made owed stores (i .vd) _ l (same-masks go image x g k) c refl);
+      }
+
+  -- one that stores to no flag does
   pub noted-arm : Enabled go image → ((L : ℕ) → Quiet (made L)) → ((L : ℕ) → registerStores (made L) ≡ flagOf (computes (i .vd) (laneIn image L)))
       → ((s : Settings) (a : ℕ) (dst : List ℕ) (L : ℕ) → made L ≡ storesAt s i a image dst L)
       → Noted i image x go
-  noted-arm g q c h =
-      record {
-        image-is = image-of h;
-        enabled-is = quiet-enabled go image x made (λ L l. q L) g p;
-        stores-are =
-            λ s a dst owed stores l. stores-of s i a image dst x made owed stores _ stores (h s a dst) (noted image x made owed stores p (i .vd) _ l q c refl);
-      }
+  noted-arm g q c h = kept-arm g (quiet-enabled go image x made (λ L l. q L) g p) c h
 
   -- one that leaves them, and counts its stores
   pub counted-arm : (s : Settings) (ties ties′ : List ℕ) (owed : ℕ) (stores stores′ : List ℕ) → ties′ ≡ counted ties (tieIn i image) → Enabled go x
@@ -130,18 +142,43 @@ valued-rest : (op : ℕ) (i : Insn) (L : ℕ) (own : Lane) → (op ≡ 7 → ⊥
 unfolding valued valuedWith valueWord pick
 valued-rest op i L own a b c d e = simp (ne-eqb op 7 a, ne-eqb op 8 b, ne-eqb op 9 c, ne-eqb op 10 d, ne-eqb op 11 e)
 
--- and it is the last of the noted operations
-pub noted-rest : (op : ℕ) (s : Settings) (a : ℕ) (i : Insn) (L : ℕ) (head : Lane) (even odd : ℕ) (own : Lane) → IsNoted op → (op ≡ 2 → ⊥) → (op ≡ 7 → ⊥) → (op ≡ 8 → ⊥)
+-- ---- whether flags may change
+
+changes-not : (op m : ℕ) → changesFlags op m ≡ false
+    → ((eqb op 6 && (not (has m 4) || has m 8)) ≡ false) × ((eqb op 12 ≡ false) × ((eqb op 13 && (has m 2 || has m 8)) ≡ false))
+changes-not op m h =
+    let p = neither (eqb op 6 && (not (has m 4) || has m 8)) _ h in (p .0, neither (eqb op 12) (eqb op 13 && (has m 2 || has m 8)) (p .1))
+
+-- IADD or EXEXP that does not change them
+pub iadd-leaves : (op m : ℕ) → op ≡ 6 → changesFlags op m ≡ false → (not (has m 4) || has m 8) ≡ false
+iadd-leaves op m e h = sym (ap (λ (t : Bool). t && (not (has m 4) || has m 8)) (eq-eqb op 6 e)) ∙ changes-not op m h .0
+
+pub exexp-leaves : (op m : ℕ) → op ≡ 13 → changesFlags op m ≡ false → (has m 2 || has m 8) ≡ false
+exexp-leaves op m e h = sym (ap (λ (t : Bool). t && (has m 2 || has m 8)) (eq-eqb op 13 e)) ∙ changes-not op m h .1 .1
+
+-- an operation that may is one of the three
+pub changes-sets : (op m : ℕ) → changesFlags op m ≡ true → setsFlags op ≡ true
+changes-sets op m h = one (eqb op 6) (eqb op 12) (eqb op 13) _ _ h
+  where
+    one : (a b c p q : Bool) → ((a && p) || (b || (c && q))) ≡ true → (a || (b || c)) ≡ true
+    one true b c p q h = refl
+    one false true c p q h = refl
+    one false false true p q h = refl
+    one false false false p q h = h
+
+-- EXMAN's is the last of the noted operations
+pub noted-rest : (op m : ℕ) (s : Settings) (a : ℕ) (i : Insn) (L : ℕ) (head : Lane) (even odd : ℕ) (own : Lane) → IsNoted op m → (op ≡ 2 → ⊥) → (op ≡ 6 → ⊥) → (op ≡ 7 → ⊥)
+    → (op ≡ 8 → ⊥)
     → (op ≡ 9 → ⊥)
     → (op ≡ 10 → ⊥)
     → (op ≡ 11 → ⊥)
+    → (op ≡ 13 → ⊥)
     → valued 14 i L own ≡ storesOf op s a i L head even odd own
 unfolding storesOf lanewise pick
-noted-rest op s a i L head even odd own n e2 e7 e8 e9 e10 e11 =
-    let m = meets-not op (n .meets-no-dst) in
-    let f = neither (eqb op 6) _ (n .sets-no-flags) in
-    let g = neither (eqb op 12) (eqb op 13) (f .1) in
-    simp (n .no-config, m .0, ne-eqb op 2 e2, n .no-lut, n .no-swap, f .0, g .0, g .1, n .no-nop, m .1) (valued-rest op i L own e7 e8 e9 e10 e11)
+noted-rest op m s a i L head even odd own n e2 e6 e7 e8 e9 e10 e11 e13 =
+    let d = meets-not op (n .meets-no-dst) in
+    let f = changes-not op m (n .changes-no-flags) in
+    simp (n .no-config, d .0, ne-eqb op 2 e2, n .no-lut, n .no-swap, ne-eqb op 6 e6, f .1 .0, ne-eqb op 13 e13, n .no-nop, d .1) (valued-rest op i L own e7 e8 e9 e10 e11)
 
 -- the last of those that set flags
 pub flagged-op : (op : ℕ) → setsFlags op ≡ true → (op ≡ 6 → ⊥) → (op ≡ 12 → ⊥) → op ≡ 13
@@ -164,25 +201,25 @@ stored-left s i cursor image dst x go ties ties′ owed stores due stores′ n e
       stores-are = h .stores-are (address (i .imm) (s .offset) cursor) dst;
     }
 
--- so does one that sets flags
-pub flagged-left : (s : Settings) (i : Insn) (cursor : ℕ) (image dst x before go ties : List ℕ) (owed : ℕ) (stores stores′ : List ℕ) → meetsDst (i .op) ≡ false
-    → setsFlags (i .op) ≡ true
+-- so does one that may change flags
+pub flagged-left : (s : Settings) (i : Insn) (cursor : ℕ) (image dst x go ties : List ℕ) (owed : ℕ) (stores stores′ : List ℕ)
+    → changesFlags (i .op) (i .md) ≡ true
     → length dst ≡ 16384
     → length ties ≡ 8
-    → Enabled before image
-    → ((e : ℕ → Bool) → MarksAt 0 e before → stores′ ≡ counted stores (times (owed + flagOf (ltb (i .vd) 8)) e))
-    → Flagged i image x go
+    → Flagged i image x go owed stores stores′
     → Left s i cursor image dst ties owed stores (record { cursor = cursor; owed = 0 }) x dst go ties stores′
 unfolding imageAfter dstAfter nextCursor
-flagged-left s i cursor image dst x before go ties owed stores stores′ n f e l g k h =
+flagged-left s i cursor image dst x go ties owed stores stores′ f e l h =
     let a = address (i .imm) (s .offset) cursor in
+    let one = changes-sets (i .op) (i .md) f in
+    let n : meetsDst (i .op) ≡ false = by-op (λ op. meetsDst op ≡ false) refl refl refl (i .op) one in
     record {
       cursor-is = sym (pick-false (meetsDst (i .op)) _ cursor n);
       image-is = h .image-is s a dst;
       dst-is = dst-kept i a image dst (eqb-false (i .op) 16 (meets-not (i .op) n .1)) e;
       enabled-is = h .enabled-is;
-      ties-is = no-ties i image ties l (λ o. false≢true (ap setsFlags (sym o) ∙ f));
-      stores-are = settled s i a image dst x before owed stores stores′ f g k;
+      ties-is = no-ties i image ties l (λ o. false≢true (ap setsFlags (sym o) ∙ one));
+      stores-are = h .stores-are s a dst;
     }
 
 -- one that meets it does so at the address that the cursor gives, and compares nothing
@@ -326,6 +363,32 @@ reached-more s list start-dst start first k cursor image dst go ties stores owed
       few = omega (arith, m .stores-are .few, h .few);
       long = ap length (m .image-is) ∙ length-after s i cursor image dst;
       dst-long = ap length (m .dst-is) ∙ length-dst-after s i cursor image dst;
+    }
+
+-- where two ways meet: what each left, under the names after them
+pub reached-same : (s : Settings) (list start-dst start : List ℕ) (first k cursor : ℕ) (image dst go ties stores : List ℕ) (owed cursor′ : ℕ)
+    (image′ dst′ go′ ties′ stores′ : List ℕ) (owed′ : ℕ)
+    → image′ ≡ image
+    → dst′ ≡ dst
+    → go′ ≡ go
+    → ties′ ≡ ties
+    → stores′ ≡ stores
+    → owed′ ≡ owed
+    → cursor′ ≡ cursor
+    → Reached s list start-dst start first k cursor image dst go ties stores owed
+    → Reached s list start-dst start first k cursor′ image′ dst′ go′ ties′ stores′ owed′
+reached-same s list start-dst start first k cursor image dst go ties stores owed cursor′ image′ dst′ go′ ties′ stores′ owed′ i d g t u o p h =
+    record {
+      cursor-is = p ∙ h .cursor-is;
+      image-is = i ∙ h .image-is;
+      dst-is = d ∙ h .dst-is;
+      enabled-is = subst (λ (x : List ℕ). Enabled x image′) (sym g) (subst (λ (x : List ℕ). Enabled go x) (sym i) (h .enabled-is));
+      ties-is = t ∙ h .ties-is;
+      stores-is = cc (o, u, i) ∙ h .stores-is;
+      eight = ap length u ∙ h .eight;
+      few = omega (arith, o, h .few);
+      long = ap length i ∙ h .long;
+      dst-long = ap length d ∙ h .dst-long;
     }
 
 -- at the end of the list, what is owed counted

@@ -167,20 +167,27 @@ module _ (image after : List ℕ) (made : ℕ → Stores) (owed : ℕ) (stores :
         eight = ap length h ∙ length-counted stores (λ L. registerStores (made L));
       }
 
-  -- one that leaves the flags and stores once in each enabled lane, for vd below 8
-  pub noted : (vd due : ℕ) → length stores ≡ 8 → ((L : ℕ) → Quiet (made L)) → ((L : ℕ) → registerStores (made L) ≡ flagOf (computes vd (laneIn image L)))
-      → due ≡ owed + flagOf (ltb vd 8)
-      → Tallied image after (λ L. registerStores (made L)) owed stores due stores
-  noted vd due l q c d =
-      record {
-        sum-is =
-            owed-kept image after stores due (λ L l. quiet-lane image after made L l (q L) e)
-            ∙ ap (λ (n : ℕ). withOwed n stores image) d
-            ∙ owed-sum image stores owed (flagOf (ltb vd 8))
-            ∙ counted-same (withOwed owed stores image) _ _ (λ L l. sym (c L ∙ both-flags (ltb vd 8) (enabledIn image L)));
-        few = omega (arith, flag-small (ltb vd 8));
-        eight = l;
-      }
+-- one row of masks, of both images: the same lanes are enabled
+pub same-masks : (go image after : List ℕ) → Enabled go image → Enabled go after → (L : ℕ) → L < 32 → enabledIn after L ≡ enabledIn image L
+same-masks go image after g h L l =
+    sym (marks (enabledIn after L)) ∙ ap (λ (x : ℕ). eqb x 0xFFFFFFFF) (sym (h .mask-is L l) ∙ g .mask-is L l) ∙ marks (enabledIn image L)
+
+-- one that leaves them enabled and stores once in each, for vd below 8
+pub noted : (image after : List ℕ) (made : ℕ → Stores) (owed : ℕ) (stores : List ℕ) (vd due : ℕ) → length stores ≡ 8
+    → ((L : ℕ) → L < 32 → enabledIn after L ≡ enabledIn image L)
+    → ((L : ℕ) → registerStores (made L) ≡ flagOf (computes vd (laneIn image L)))
+    → due ≡ owed + flagOf (ltb vd 8)
+    → Tallied image after (λ L. registerStores (made L)) owed stores due stores
+noted image after made owed stores vd due l q c d =
+    record {
+      sum-is =
+          owed-kept image after stores due q
+          ∙ ap (λ (n : ℕ). withOwed n stores image) d
+          ∙ owed-sum image stores owed (flagOf (ltb vd 8))
+          ∙ counted-same (withOwed owed stores image) _ _ (λ L l. sym (c L ∙ both-flags (ltb vd 8) (enabledIn image L)));
+      few = omega (arith, flag-small (ltb vd 8));
+      eight = l;
+    }
 
 -- one that stores to no register, and leaves the image
 pub nothing-made : (image : List ℕ) (more : ℕ → ℕ) (owed : ℕ) (stores : List ℕ) → length stores ≡ 8 → ((L : ℕ) → more L ≡ 0)
@@ -202,7 +209,7 @@ tallied-same image after f g owed stores due stores′ h t =
 -- ---- an operation that sets flags
 
 -- one of three
-by-op : (P : ℕ → Type 0) → P 6 → P 12 → P 13 → (op : ℕ) → setsFlags op ≡ true → P op
+pub by-op : (P : ℕ → Type 0) → P 6 → P 12 → P 13 → (op : ℕ) → setsFlags op ≡ true → P op
 by-op P p q r op h = go (eqb op 6) (eqb op 12) (eqb op 13) refl refl refl h
   where
     go : (s t u : Bool) → eqb op 6 ≡ s → eqb op 12 ≡ t → eqb op 13 ≡ u → (s || (t || u)) ≡ true → P op

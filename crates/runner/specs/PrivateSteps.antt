@@ -15,7 +15,7 @@ use Rattle.runner.specs.Checks.{countOf}
 use Rattle.runner.specs.Run.{Machine, tieIn, storesIn, tiesBy, storesBy, overColumn, countAfter, imageAt, imageAfter, dstAt, dstAfter, cursorAfter, steps}
 use Rattle.runner.specs.declared.Onward.{Onward}
 use Rattle.runner.specs.PrivateRows.{Enabled}
-use Rattle.runner.specs.PrivateCompute.{setsFlags}
+use Rattle.runner.specs.PrivateCompute.{changesFlags}
 
 -- The eight counters after an instruction in which lane L has `more L` to count.
 unfoldable pub counted : List ℕ → (ℕ → ℕ) → List ℕ
@@ -44,11 +44,11 @@ pub record Tallied (image after : List ℕ) (more : ℕ → ℕ) (owed : ℕ) (s
   pub few : due ≤ owed + 1
   pub eight : length stores′ ≡ 8
 
--- An operation that stores at most once in each lane that is enabled, and leaves the flags: none of those that meet Dst, that count their stores, that set flags
--- or that do nothing.
-pub record IsNoted (op : ℕ) : Type 0 where
+-- An instruction that stores at most once in each lane that is enabled, and leaves the flags: none of those that meet Dst, that count their stores, that may
+-- change flags or that do nothing.
+pub record IsNoted (op m : ℕ) : Type 0 where
   pub meets-no-dst : meetsDst op ≡ false
-  pub sets-no-flags : setsFlags op ≡ false
+  pub changes-no-flags : changesFlags op m ≡ false
   pub no-lut : eqb op 3 ≡ false
   pub no-swap : eqb op 4 ≡ false
   pub no-config : eqb op 5 ≡ false
@@ -61,12 +61,13 @@ pub record Noted (i : Insn) (image after go : List ℕ) : Type 0 where
   pub stores-are : (s : Settings) (a : ℕ) (dst : List ℕ) (owed : ℕ) (stores : List ℕ) → length stores ≡ 8
       → Tallied image after (storesIn s i a image dst) owed stores (owed + flagOf (ltb (i .vd) 8)) stores
 
--- What an operation that sets flags leaves: its stores were counted before it.
-pub record Flagged (i : Insn) (image after go : List ℕ) : Type 0 where
+-- What an instruction that may change flags leaves: its stores were counted before it, with all that was owed.
+pub record Flagged (i : Insn) (image after go : List ℕ) (owed : ℕ) (stores stores′ : List ℕ) : Type 0 where
   pub image-is : (s : Settings) (a : ℕ) (dst : List ℕ) → after ≡ imageAt s i a image dst
   pub enabled-is : Enabled go after
+  pub stores-are : (s : Settings) (a : ℕ) (dst : List ℕ) → Tallied image after (storesIn s i a image dst) owed stores 0 stores′
 
--- What an instruction leaves that does not meet Dst and sets no flags: no address and no Dst has a part in it.
+-- What an instruction leaves that does not meet Dst and changes no flags: no address and no Dst has a part in it.
 pub record Stored (s : Settings) (i : Insn) (image after go ties ties′ : List ℕ) (owed : ℕ) (stores : List ℕ) (due : ℕ) (stores′ : List ℕ) : Type 0 where
   pub image-is : (a : ℕ) (dst : List ℕ) → after ≡ imageAt s i a image dst
   pub enabled-is : Enabled go after

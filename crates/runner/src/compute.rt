@@ -15,7 +15,7 @@ use lane::words::enabled;
 use lane::words::keep;
 use std::num::wrapping_add_u32;
 ghost use mathlib.Core.Path.{_≡_};
-ghost use mathlib.Core.Bool.{false, _||_};
+ghost use mathlib.Core.Bool.{false, not, _||_};
 ghost use Prim.Native.Nat.{ℕ, _<_};
 ghost use lib.ListN.{length, getD};
 ghost use lib.Dec.{eqb};
@@ -188,6 +188,40 @@ fn touches(sets: bool, m: u32) -> bool
     sets | (m / 8 % 2 == 1)
 }
 
+// Whether an instruction may change flags. LZ is taken to with every mod, so that its counts have one loop.
+pub(crate) fn changes_flags(op: u32, m: u32) -> bool
+    ensures { λ r. ⌜ r ≡ Compute.changesFlags op m ⌝ }
+{
+    match op {
+        6 => touches(!(m / 4 % 2 == 1), m),
+        12 => true,
+        13 => touches(m / 2 % 2 == 1, m),
+        _ => false,
+    }
+}
+
+// IADD over all lanes, the words alone: for a mod that leaves the flags. It and EXEXP's are two functions, as each has a loop of its own once compiled.
+pub(crate) fn iadd_words(image: &mut [u32], i: Insn, go: &[u32; 128], fixed: &[u32; 128])
+    requires { ⌜ (length (now image) ≡ 768) × (Rows.Enabled (now go) (now image) × ((now fixed ≡ Rows.fixedRows) × ((not (has (i .md) 4) || has (i .md) 8) ≡ false))) ⌝ }
+    ensures { λ _. ⌜ (now (image .exit) ≡ Rows.storing (now (image .entry)) (λ L. Rules.iadd i L (laneIn (now (image .entry)) L))) × Rows.Enabled (now (go .entry)) (now (image .exit)) ⌝ }
+{
+    if i.vd < 8 {
+        let c = source(image, fixed, i.vc);
+        word_rows(image, 6, i, &c, &c, go);
+    }
+}
+
+// EXEXP's words alone.
+pub(crate) fn exexp_words(image: &mut [u32], i: Insn, go: &[u32; 128], fixed: &[u32; 128])
+    requires { ⌜ (length (now image) ≡ 768) × (Rows.Enabled (now go) (now image) × ((now fixed ≡ Rows.fixedRows) × ((has (i .md) 2 || has (i .md) 8) ≡ false))) ⌝ }
+    ensures { λ _. ⌜ (now (image .exit) ≡ Rows.storing (now (image .entry)) (λ L. Rules.exexp i L (laneIn (now (image .entry)) L))) × Rows.Enabled (now (go .entry)) (now (image .exit)) ⌝ }
+{
+    if i.vd < 8 {
+        let c = source(image, fixed, i.vc);
+        word_rows(image, 13, i, &c, &c, go);
+    }
+}
+
 // IADD over all lanes.
 pub(crate) fn iadd(image: &mut [u32], i: Insn, go: &mut [u32; 128], fixed: &[u32; 128])
     requires { ⌜ (length (now image) ≡ 768) × (Rows.Enabled (now go) (now image) × (now fixed ≡ Rows.fixedRows)) ⌝ }
@@ -196,11 +230,7 @@ pub(crate) fn iadd(image: &mut [u32], i: Insn, go: &mut [u32; 128], fixed: &[u32
     if i.vd < 8 {
         let c = source(image, fixed, i.vc);
         let sets = !(i.md / 4 % 2 == 1);
-        if touches(sets, i.md) {
-            flagged_rows(image, 6, i, sets, &c, &c, go);
-        } else {
-            word_rows(image, 6, i, &c, &c, go);
-        }
+        flagged_rows(image, 6, i, sets, &c, &c, go);
     }
 }
 
@@ -229,10 +259,6 @@ pub(crate) fn exexp(image: &mut [u32], i: Insn, go: &mut [u32; 128], fixed: &[u3
     if i.vd < 8 {
         let c = source(image, fixed, i.vc);
         let sets = i.md / 2 % 2 == 1;
-        if touches(sets, i.md) {
-            flagged_rows(image, 13, i, sets, &c, &c, go);
-        } else {
-            word_rows(image, 13, i, &c, &c, go);
-        }
+        flagged_rows(image, 13, i, sets, &c, &c, go);
     }
 }

@@ -3,8 +3,11 @@ use crate::Ended;
 use crate::Onward;
 use crate::Outcome;
 use crate::checks::run_answer;
+use crate::compute::changes_flags;
 use crate::compute::exexp;
+use crate::compute::exexp_words;
 use crate::compute::iadd;
+use crate::compute::iadd_words;
 use crate::compute::lz;
 use crate::compute::valued;
 use crate::config::config;
@@ -18,7 +21,6 @@ use crate::store::store;
 use crate::swap::swap;
 use crate::traffic::count_enabled;
 use crate::traffic::once;
-use crate::traffic::sets_flags;
 use crate::traffic::settle;
 use lane::Insn;
 use lane::Settings;
@@ -39,17 +41,19 @@ ghost use Rattle.runner.specs.PrivateSteps as Steps;
 
 // An operation that stores once in each lane that is enabled, where vd is stored to, and leaves the flags. The op is a constant where one function serves several.
 fn step_noted(i: Insn, image: &mut [u32], go: &[u32; 128], fixed: &[u32; 128])
-    requires { ⌜ (length (now image) ≡ 768) × (Rows.Enabled (now go) (now image) × ((now fixed ≡ Rows.fixedRows) × Steps.IsNoted (i .op))) ⌝ }
+    requires { ⌜ (length (now image) ≡ 768) × (Rows.Enabled (now go) (now image) × ((now fixed ≡ Rows.fixedRows) × Steps.IsNoted (i .op) (i .md))) ⌝ }
     ensures { λ _. ⌜ Steps.Noted i (now (image .entry)) (now (image .exit)) (now (go .entry)) ⌝ }
 {
     let op = i.op;
     match op {
         2 => loadi(image, i, go),
+        6 => iadd_words(image, i, go, fixed),
         7 => valued(image, 7, i, go, fixed),
         8 => valued(image, 8, i, go, fixed),
         9 => valued(image, 9, i, go, fixed),
         10 => valued(image, 10, i, go, fixed),
         11 => valued(image, 11, i, go, fixed),
+        13 => exexp_words(image, i, go, fixed),
         _ => valued(image, 14, i, go, fixed),
     }
 }
@@ -66,7 +70,7 @@ fn step_stored(
     owed: u32,
     stores: &mut [u32],
 ) -> u32
-    requires { ⌜ (length (now image) ≡ 768) × (Rows.Enabled (now go) (now image) × ((now fixed ≡ Rows.fixedRows) × ((Steps.Room 4 (now ties) × Steps.Room (4 * owed + 28) (now stores)) × ((Load.meetsDst (i .op) ≡ false) × (Compute.setsFlags (i .op) ≡ false))))) ⌝ }
+    requires { ⌜ (length (now image) ≡ 768) × (Rows.Enabled (now go) (now image) × ((now fixed ≡ Rows.fixedRows) × ((Steps.Room 4 (now ties) × Steps.Room (4 * owed + 28) (now stores)) × ((Load.meetsDst (i .op) ≡ false) × (Compute.changesFlags (i .op) (i .md) ≡ false))))) ⌝ }
     ensures { λ r. ⌜ Steps.Stored s i (now (image .entry)) (now (image .exit)) (now (go .exit)) (now (ties .entry)) (now (ties .exit)) owed (now (stores .entry)) r (now (stores .exit)) ⌝ }
 {
     let op = i.op;
@@ -83,16 +87,32 @@ fn step_stored(
     owed
 }
 
-// IADD, LZ or EXEXP in every lane: they keep up the masks of the lanes that are enabled.
-fn step_flagged(i: Insn, image: &mut [u32], go: &mut [u32; 128], fixed: &[u32; 128])
-    requires { ⌜ (length (now image) ≡ 768) × (Rows.Enabled (now go) (now image) × ((now fixed ≡ Rows.fixedRows) × (Compute.setsFlags (i .op) ≡ true))) ⌝ }
-    ensures { λ _. ⌜ Steps.Flagged i (now (image .entry)) (now (image .exit)) (now (go .exit)) ⌝ }
+// IADD, LZ or EXEXP in every lane, where flags may change: what is owed is counted before the lanes that are enabled change, and their masks are kept up.
+fn step_flagged(
+    i: Insn,
+    image: &mut [u32],
+    go: &mut [u32; 128],
+    fixed: &[u32; 128],
+    owed: u32,
+    stores: &mut [u32],
+)
+    requires { ⌜ (length (now image) ≡ 768) × (Rows.Enabled (now go) (now image) × ((now fixed ≡ Rows.fixedRows) × (Steps.Room (4 * owed + 28) (now stores) × (Compute.changesFlags (i .op) (i .md) ≡ true)))) ⌝ }
+    ensures { λ _. ⌜ Steps.Flagged i (now (image .entry)) (now (image .exit)) (now (go .exit)) owed (now (stores .entry)) (now (stores .exit)) ⌝ }
 {
     let op = i.op;
     match op {
-        6 => iadd(image, i, go, fixed),
-        12 => lz(image, i, go, fixed),
-        _ => exexp(image, i, go, fixed),
+        6 => {
+            settle(i.vd, owed, go, stores);
+            iadd(image, i, go, fixed)
+        }
+        12 => {
+            settle(i.vd, owed, go, stores);
+            lz(image, i, go, fixed)
+        }
+        _ => {
+            settle(i.vd, owed, go, stores);
+            exexp(image, i, go, fixed)
+        }
     }
 }
 
@@ -130,7 +150,7 @@ fn step_lanes(
     owed: u32,
     stores: &mut [u32],
 ) -> Onward
-    requires { ⌜ (length (now image) ≡ 768) × ((length (now dst) ≡ 16384) × (Rows.Enabled (now go) (now image) × ((now fixed ≡ Rows.fixedRows) × (Steps.Room 4 (now ties) × Steps.Room (4 * owed + 28) (now stores))))) ⌝ }
+    requires { ⌜ (length (now image) ≡ 768) × ((length (now dst) ≡ 16384) × (Rows.Enabled (now go) (now image) × ((now fixed ≡ Rows.fixedRows) × ((Steps.Room 4 (now ties) × Steps.Room (4 * owed + 28) (now stores)) × (Compute.changesFlags (i .op) (i .md) ≡ false))))) ⌝ }
     ensures { λ r. ⌜ Steps.Left s i cursor (now (image .entry)) (now (dst .entry)) (now (ties .entry)) owed (now (stores .entry)) r (now (image .exit)) (now (dst .exit)) (now (go .exit)) (now (ties .exit)) (now (stores .exit)) ⌝ }
 {
     if meets_dst(i.op) {
@@ -140,11 +160,6 @@ fn step_lanes(
             cursor: next_cursor(i.op, cursor, stride(s, i.vb)),
             owed,
         };
-    }
-    if sets_flags(i.op) {
-        settle(i.vd, owed, go, stores);
-        step_flagged(i, image, go, fixed);
-        return Onward { cursor, owed: 0 };
     }
     let due = step_stored(s, i, image, go, fixed, ties, owed, stores);
     Onward { cursor, owed: due }
@@ -172,20 +187,26 @@ pub(crate) fn step_all(
     let mut at = cursor;
     let mut k: usize = 0;
     while k < count {
-        let next = step_lanes(
-            s,
-            insn_at(list, k),
-            at,
-            image,
-            dst,
-            &mut go,
-            &fixed,
-            &mut ties,
-            owed,
-            &mut stores,
-        );
-        at = next.cursor;
-        owed = next.owed;
+        let i = insn_at(list, k);
+        if changes_flags(i.op, i.md) {
+            step_flagged(i, image, &mut go, &fixed, owed, &mut stores);
+            owed = 0;
+        } else {
+            let next = step_lanes(
+                s,
+                i,
+                at,
+                image,
+                dst,
+                &mut go,
+                &fixed,
+                &mut ties,
+                owed,
+                &mut stores,
+            );
+            at = next.cursor;
+            owed = next.owed;
+        }
         k += 1;
     }
     count_enabled(&go, owed, &mut stores);

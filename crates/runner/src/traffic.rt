@@ -1,7 +1,8 @@
 // Register traffic: the stores to registers, counted by column.
 //
 // LOAD, LUT, SWAP and CONFIG count by the masks that they store under. Any other operation stores at most once in each lane that is enabled, and only adds to
-// what is owed to every such lane. The lanes that are enabled change by IADD, LZ and EXEXP alone: before these, and at the end, what is owed is counted.
+// what is owed to every such lane. The lanes that are enabled change by IADD, LZ and EXEXP alone, and not with every mod: before they may, and at the end,
+// what is owed is counted.
 //
 // The counters are lent as a part, as for ties.
 use std::num::wrapping_sub_u32;
@@ -13,7 +14,6 @@ ghost use lib.Dec.{ltb};
 ghost use Rattle.lane.specs.Words.{flagOf};
 ghost use Rattle.runner.specs.Run.{overColumn};
 ghost use Rattle.runner.specs.PrivateRows as Rows;
-ghost use Rattle.runner.specs.PrivateCompute as Compute;
 ghost use Rattle.runner.specs.PrivateSteps as Steps;
 
 // One store in each lane that is enabled, where vd is stored to.
@@ -62,22 +62,10 @@ pub(crate) fn count_enabled(go: &[u32; 128], each: u32, stores: &mut [u32])
     }
 }
 
-// What is owed counted, and the stores of an operation that may set flags with it. One store in each lane is the most frequent, and takes fewer instructions.
+// What is owed counted, and the stores of an instruction that may change flags with it.
 pub(crate) fn settle(vd: u32, owed: u32, go: &[u32; 128], stores: &mut [u32])
-    requires { ⌜ (length (now go) ≡ 128) × (Rows.MasksAt 0 (now go) × Steps.Room (4 * (owed + 1)) (now stores)) ⌝ }
+    requires { ⌜ (length (now go) ≡ 128) × Steps.Room (4 * (owed + 1)) (now stores) ⌝ }
     ensures { λ _. ⌜ ((e : ℕ → Bool) → Rows.MarksAt 0 e (now (go .entry)) → now (stores .exit) ≡ Steps.counted (now (stores .entry)) (Steps.times (owed + flagOf (ltb vd 8)) e)) ⌝ }
 {
-    let due = owed + once(vd);
-    if due == 1 {
-        count_marked(go, 0, 1, stores);
-        return;
-    }
-    count_enabled(go, due, stores);
-}
-
-// Whether an operation may set flags.
-pub(crate) fn sets_flags(op: u32) -> bool
-    ensures { λ r. ⌜ r ≡ Compute.setsFlags op ⌝ }
-{
-    (op == 6) | ((op == 12) | (op == 13))
+    count_enabled(go, owed + once(vd), stores);
 }
