@@ -5,15 +5,16 @@ use std::num::wrapping_sub_u32;
 ghost use mathlib.Core.Path.{_≡_};
 ghost use Rattle.lane.specs.Compute as Compute;
 
-// The flag afterwards: `truth` where the instruction sets it, else the old one; inverted where mod has 8.
+// The flag afterwards: `truth` where the instruction sets it, else the old one; inverted where mod has 8. What is set is inverted by a number, so that a
+// loop over lanes has no test for it.
 pub fn flag_after(sets: bool, truth: bool, m: u32, old: u32) -> u32
     ensures { λ r. ⌜ r ≡ Compute.flagAfter sets truth m old ⌝ }
 {
-    let flag = keep(sets, keep(truth, 1, 0), old);
-    if m / 8 % 2 == 1 {
-        keep(flag == 0, 1, 0)
+    let turn = m / 8 % 2;
+    if sets {
+        keep(truth, 1, 0) ^ turn
     } else {
-        flag
+        keep(turn == 1, keep(old == 0, 1, 0), old)
     }
 }
 
@@ -73,16 +74,11 @@ pub(crate) fn lz_flag(m: u32, c: u32, old: u32) -> u32
     flag_after(m / 2 % 2 == 1, !(lz_operand(m, c) == 0), m, old)
 }
 
-// EXEXP's word.
+// EXEXP's word. What is subtracted is a number too.
 pub fn exexp_word(m: u32, c: u32) -> u32
     ensures { λ r. ⌜ r ≡ Compute.exexpWord m c ⌝ }
 {
-    let exponent = c / 0x800000 % 256;
-    if m % 2 == 1 {
-        exponent
-    } else {
-        minus(exponent, 127)
-    }
+    minus(c / 0x800000 % 256, 127 - m % 2 * 127)
 }
 
 // EXEXP's flag.

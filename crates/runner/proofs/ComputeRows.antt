@@ -9,6 +9,7 @@ use mathlib.Core.List.{List, [], _∷_}
 use lib.Bits.{bitAnd, bitOr, or-add-and, and-le-r, or-shr, or-zero-r, and-mask}
 use lib.Count.{leadingZeros, leading-le, leading-of-zero}
 use lib.Dec.{eqb, ltb}
+use lib.ListN.{getD}
 use borrow.Author.Tests.{lt-ltb, eq-eqb, ne-eqb}
 use Rattle.lane.specs.declared.Insn.{Insn}
 use Rattle.lane.specs.Words.{pick, has, magnitude, Lane, Stores, laneFlag, enabled, reg, upd, after}
@@ -16,9 +17,10 @@ use Rattle.lane.specs.Compute.{computes, wordOnly, wordAndFlag, flagAfter, lzOp
 use Rattle.lane.proofs.Cases.{pick-true, pick-false, has-one}
 use Rattle.lane.proofs.Stores.{upd-same, upd-other}
 use Rattle.runner.specs.Image.{laneIn}
-use Rattle.runner.specs.PrivateRows.{Enabled, storing}
+use Rattle.runner.specs.PrivateRows.{row, Enabled, storing}
 use Rattle.runner.specs.PrivateCompute.{setsFlags, withMod, lzLimit, lzCount, lzFrom, wordOf, truthOf, wordWith, flaggedWith}
-use Rattle.runner.proofs.Lanes.{same-lanes}
+use Rattle.runner.proofs.Filled.{operand}
+use Rattle.runner.proofs.Lanes.{same-lanes, storing-same}
 use Rattle.runner.proofs.Enabled.{quiet-enabled}
 use Rattle.runner.proofs.Quiet.{quiet-word}
 use Rattle.runner.proofs.Operands.{reg-low, vb-unread, valued-lane}
@@ -86,14 +88,24 @@ valued-two op i L own b c r e u h er eb k =
 
 -- ---- a word and a flag
 
-pub iadd-flagged : (i : Insn) (L : ℕ) (own : Lane) (b c : ℕ) → i .vd < 8 → c ≡ reg L own (i .vc)
+iadd-flagged : (i : Insn) (L : ℕ) (own : Lane) (b c : ℕ) → i .vd < 8 → c ≡ reg L own (i .vc)
     → flaggedWith 6 i (not (has (i .md) 4)) b c own ≡ iadd i L own
 unfolding flaggedWith wordOf truthOf pick iadd iaddWith
 iadd-flagged i L own b c h e = cc (reg-low L own (i .vd) h)
 
-pub exexp-flagged : (i : Insn) (L : ℕ) (own : Lane) (b c : ℕ) → c ≡ reg L own (i .vc) → flaggedWith 13 i (has (i .md) 2) b c own ≡ exexp i L own
+exexp-flagged : (i : Insn) (L : ℕ) (own : Lane) (b c : ℕ) → c ≡ reg L own (i .vc) → flaggedWith 13 i (has (i .md) 2) b c own ≡ exexp i L own
 unfolding flaggedWith wordOf truthOf pick exexp exexpWith
 exexp-flagged i L own b c e = cc
+
+-- the same of every lane, the row of vc copied
+module _ (i : Insn) (image c x : List ℕ) (e : c ≡ row (λ L. reg L (laneIn image L) (i .vc))) where
+  pub iadd-rows : i .vd < 8 → x ≡ storing image (λ L. flaggedWith 6 i (not (has (i .md) 4)) (getD c L 0) (getD c L 0) (laneIn image L))
+      → x ≡ storing image (λ L. iadd i L (laneIn image L))
+  iadd-rows l p = p ∙ storing-same image _ _ (λ L k. iadd-flagged i L (laneIn image L) _ _ l (operand c _ e L k))
+
+  pub exexp-rows : x ≡ storing image (λ L. flaggedWith 13 i (has (i .md) 2) (getD c L 0) (getD c L 0) (laneIn image L))
+      → x ≡ storing image (λ L. exexp i L (laneIn image L))
+  exexp-rows p = p ∙ storing-same image _ _ (λ L k. exexp-flagged i L (laneIn image L) _ _ (operand c _ e L k))
 
 -- 32 zeros are counted in no word but 0
 count-below : (x : ℕ) → ltb (leadingZeros 32 x) 32 ≡ not (eqb x 0)

@@ -18,7 +18,6 @@ ghost use mathlib.Core.Path.{_≡_};
 ghost use mathlib.Core.Bool.{false, not, _||_};
 ghost use Prim.Native.Nat.{ℕ, _<_};
 ghost use lib.ListN.{length, getD};
-ghost use lib.Dec.{eqb};
 ghost use Rattle.lane.specs.Words.{has, enabled};
 ghost use Rattle.lane.specs.Compute as Rules;
 ghost use Rattle.runner.specs.Image.{laneIn};
@@ -222,7 +221,7 @@ pub(crate) fn exexp_words(image: &mut [u32], i: Insn, go: &[u32; 128], fixed: &[
     }
 }
 
-// IADD over all lanes.
+// IADD over all lanes. Each of its three words has a call, all the same, and so a loop without the tests of the other two.
 pub(crate) fn iadd(image: &mut [u32], i: Insn, go: &mut [u32; 128], fixed: &[u32; 128])
     requires { ⌜ (length (now image) ≡ 768) × (Rows.Enabled (now go) (now image) × (now fixed ≡ Rows.fixedRows)) ⌝ }
     ensures { λ _. ⌜ (now (image .exit) ≡ Rows.storing (now (image .entry)) (λ L. Rules.iadd i L (laneIn (now (image .entry)) L))) × Rows.Enabled (now (go .exit)) (now (image .exit)) ⌝ }
@@ -230,7 +229,13 @@ pub(crate) fn iadd(image: &mut [u32], i: Insn, go: &mut [u32; 128], fixed: &[u32
     if i.vd < 8 {
         let c = source(image, fixed, i.vc);
         let sets = !(i.md / 4 % 2 == 1);
-        flagged_rows(image, 6, i, sets, &c, &c, go);
+        if i.md % 2 == 1 {
+            flagged_rows(image, 6, i, sets, &c, &c, go);
+        } else if i.md / 2 % 2 == 1 {
+            flagged_rows(image, 6, i, sets, &c, &c, go);
+        } else {
+            flagged_rows(image, 6, i, sets, &c, &c, go);
+        }
     }
 }
 
@@ -251,7 +256,7 @@ pub(crate) fn lz(image: &mut [u32], i: Insn, go: &mut [u32; 128], fixed: &[u32; 
     }
 }
 
-// EXEXP over all lanes.
+// EXEXP over all lanes, in the same way where mod inverts flags and where not.
 pub(crate) fn exexp(image: &mut [u32], i: Insn, go: &mut [u32; 128], fixed: &[u32; 128])
     requires { ⌜ (length (now image) ≡ 768) × (Rows.Enabled (now go) (now image) × (now fixed ≡ Rows.fixedRows)) ⌝ }
     ensures { λ _. ⌜ (now (image .exit) ≡ Rows.storing (now (image .entry)) (λ L. Rules.exexp i L (laneIn (now (image .entry)) L))) × Rows.Enabled (now (go .exit)) (now (image .exit)) ⌝ }
@@ -259,6 +264,10 @@ pub(crate) fn exexp(image: &mut [u32], i: Insn, go: &mut [u32; 128], fixed: &[u3
     if i.vd < 8 {
         let c = source(image, fixed, i.vc);
         let sets = i.md / 2 % 2 == 1;
-        flagged_rows(image, 13, i, sets, &c, &c, go);
+        if i.md / 8 % 2 == 1 {
+            flagged_rows(image, 13, i, sets, &c, &c, go);
+        } else {
+            flagged_rows(image, 13, i, sets, &c, &c, go);
+        }
     }
 }

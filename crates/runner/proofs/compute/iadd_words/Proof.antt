@@ -1,15 +1,14 @@
-use Rattle.runner.proofs.ComputeRows.{iadd-flagged, untouched, words-enabled}
-use Rattle.runner.proofs.Filled.{operand}
-use Rattle.runner.proofs.Lanes.{storing-same, storing-none}
+use Rattle.runner.proofs.ComputeRows.{iadd-rows, untouched, words-enabled}
+use Rattle.runner.proofs.Lanes.{storing-none}
 use Rattle.runner.proofs.Operands.{no-iadd}
 use Rattle.runner.proofs.compute.iadd_words.Statement.{statement}
 use Rattle.runner.specs.Image.{laneIn}
 use borrow.Author.Needs.{needs}
-use mathlib.Core.Path.{sym, _∙_}
+use mathlib.Core.Path.{sym}
 use Rattle.runner.proofs.compute.iadd_words.Tie as tie
 
 returns : tie.Need-returns
-returns c = (untouched 6 _ _ _ _ _ _ (c .before .before .before .before .before .before .before .before .before .before .before .pre .1 .1 .1) (c .before .before .word-rows .ensures) ∙ storing-same _ _ _ (λ L l. iadd-flagged (c .before .before .before .before .before .before .before .before .before .before .before .args .i) L (laneIn (c .before .before .before .before .before .before .before .before .before .before .before .args .image .now) L) _ _ (c .before .before .before .before .before .before .before .before .if1 .taken) (operand _ _ (c .before .before .before .before .before .before .source .ensures) L l)), words-enabled 6 _ _ _ _ _ _ (c .before .before .before .before .before .before .before .before .before .before .before .pre .1 .0) (c .before .before .word-rows .ensures))
+returns c = (iadd-rows _ _ _ _ (c .before .before .before .before .before .before .source .ensures) (c .before .before .before .before .before .before .before .before .if1 .taken) (untouched 6 _ _ _ _ _ _ (c .before .before .before .before .before .before .before .before .before .before .before .pre .1 .1 .1) (c .before .before .word-rows .ensures)), words-enabled 6 _ _ _ _ _ _ (c .before .before .before .before .before .before .before .before .before .before .before .pre .1 .0) (c .before .before .word-rows .ensures))
 
 returns-2 : tie.Need-returns-2
 returns-2 c = (sym (storing-none _ _ (c .before .before .before .pre .0) (λ L l. no-iadd (c .before .before .before .args .i) L (laneIn (c .before .before .before .args .image .now) L) (c .if1 .left))), c .before .before .before .pre .1 .0)
