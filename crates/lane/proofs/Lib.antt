@@ -1,6 +1,7 @@
 -- The laws that the proofs of this crate and of the crates above it cite.
 pub mod Cases
 pub mod Tables
+pub mod Masks
 pub mod Floats
 pub mod Ranks
 pub mod Fields

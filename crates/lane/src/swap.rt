@@ -5,24 +5,43 @@ use crate::words::keep;
 ghost use mathlib.Core.Path.{_≡_};
 ghost use Prim.Native.Nat.{_+_, _-_};
 ghost use lib.Dec.{ltb};
+ghost use lib.ListN.{getD};
 ghost use Rattle.lane.specs.Words.{pick};
 ghost use Rattle.lane.specs.Swap as Swap;
 
-// The lanes in which vd wants the minimum, for mod `m`, lane 0 the lowest bit; none from 9 on. A table that is not built on the stack at every call.
-pub fn mask_of(m: u32) -> u32
+// For each mod, the lanes in which vd wants the minimum, lane 0 the lowest bit.
+pub const MASKS: [u32; 16] = [
+    0,
+    0xFFFFFFFF,
+    0x0000FFFF,
+    0x00FF00FF,
+    0xFF0000FF,
+    0x000000FF,
+    0x0000FF00,
+    0x00FF0000,
+    0xFF000000,
+    0,
+    0,
+    0,
+    0,
+    0,
+    0,
+    0,
+];
+
+// The mask of mod `m` in a table that is lent, so that a run makes it once; none for a number that is no mod.
+pub fn mask_in(masks: &[u32; 16], m: u32) -> u32
+    ensures { λ r. ⌜ r ≡ pick (ltb m 16) (getD (now (masks .entry)) m 0) 0 ⌝ }
+{
+    if m < 16 { masks[m as usize] } else { 0 }
+}
+
+// The lanes in which vd wants the minimum, for mod `m`.
+pub(crate) fn mask_of(m: u32) -> u32
     ensures { λ r. ⌜ r ≡ Swap.maskOf m ⌝ }
 {
-    match m {
-        1 => 0xFFFFFFFF,
-        2 => 0x0000FFFF,
-        3 => 0x00FF00FF,
-        4 => 0xFF0000FF,
-        5 => 0x000000FF,
-        6 => 0x0000FF00,
-        7 => 0x00FF0000,
-        8 => 0xFF000000,
-        _ => 0,
-    }
+    let masks = MASKS;
+    mask_in(&masks, m)
 }
 
 // Whether a lane is among those of a mask.

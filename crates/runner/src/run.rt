@@ -28,11 +28,13 @@ use lane::load::address;
 use lane::load::meets_dst;
 use lane::load::next_cursor;
 use lane::load::stride;
+use lane::swap::MASKS;
 ghost use mathlib.Core.Path.{_≡_};
 ghost use mathlib.Core.Bool.{true, false};
 ghost use Prim.Native.Nat.{ℕ, _+_, _*_, _<_, _≤_};
 ghost use lib.ListN.{length};
 ghost use Rattle.lane.specs.Load as Load;
+ghost use Rattle.lane.specs.Swap as Swap;
 ghost use Rattle.runner.specs.Checks as Checks;
 ghost use Rattle.runner.specs.Run as Run;
 ghost use Rattle.runner.specs.PrivateRows as Rows;
@@ -66,17 +68,18 @@ fn step_stored(
     image: &mut [u32],
     go: &mut [u32; 128],
     fixed: &[u32; 128],
+    masks: &[u32; 16],
     ties: &mut [u32],
     owed: u32,
     stores: &mut [u32],
 ) -> u32
-    requires { ⌜ (length (now image) ≡ 768) × (Rows.Enabled (now go) (now image) × ((now fixed ≡ Rows.fixedRows) × ((Steps.Room 4 (now ties) × Steps.Room (4 * owed + 28) (now stores)) × ((Load.meetsDst (i .op) ≡ false) × (Compute.changesFlags (i .op) (i .md) ≡ false))))) ⌝ }
+    requires { ⌜ (length (now image) ≡ 768) × (Rows.Enabled (now go) (now image) × (((now fixed ≡ Rows.fixedRows) × (now masks ≡ Swap.masks)) × ((Steps.Room 4 (now ties) × Steps.Room (4 * owed + 28) (now stores)) × ((Load.meetsDst (i .op) ≡ false) × (Compute.changesFlags (i .op) (i .md) ≡ false))))) ⌝ }
     ensures { λ r. ⌜ Steps.Stored s i (now (image .entry)) (now (image .exit)) (now (go .exit)) (now (ties .entry)) (now (ties .exit)) owed (now (stores .entry)) r (now (stores .exit)) ⌝ }
 {
     let op = i.op;
     match op {
         3 => lut(image, i, go, stores),
-        4 => swap(image, i, go, fixed, ties, stores),
+        4 => swap(image, i, go, fixed, masks, ties, stores),
         5 => config(image, s.edition, i, stores),
         15 => {}
         _ => {
@@ -87,7 +90,8 @@ fn step_stored(
     owed
 }
 
-// IADD, LZ or EXEXP in every lane, where flags may change: what is owed is counted before the lanes that are enabled change, and their masks are kept up.
+// IADD, LZ or EXEXP in every lane, where flags may change: what is owed is counted before the lanes that are enabled change, and their masks are kept up. It is
+// counted in each arm: before them it would cost a second jump.
 fn step_flagged(
     i: Insn,
     image: &mut [u32],
@@ -146,11 +150,12 @@ fn step_lanes(
     dst: &mut [u16],
     go: &mut [u32; 128],
     fixed: &[u32; 128],
+    masks: &[u32; 16],
     ties: &mut [u32],
     owed: u32,
     stores: &mut [u32],
 ) -> Onward
-    requires { ⌜ (length (now image) ≡ 768) × ((length (now dst) ≡ 16384) × (Rows.Enabled (now go) (now image) × ((now fixed ≡ Rows.fixedRows) × ((Steps.Room 4 (now ties) × Steps.Room (4 * owed + 28) (now stores)) × (Compute.changesFlags (i .op) (i .md) ≡ false))))) ⌝ }
+    requires { ⌜ (length (now image) ≡ 768) × ((length (now dst) ≡ 16384) × (Rows.Enabled (now go) (now image) × (((now fixed ≡ Rows.fixedRows) × (now masks ≡ Swap.masks)) × ((Steps.Room 4 (now ties) × Steps.Room (4 * owed + 28) (now stores)) × (Compute.changesFlags (i .op) (i .md) ≡ false))))) ⌝ }
     ensures { λ r. ⌜ Steps.Left s i cursor (now (image .entry)) (now (dst .entry)) (now (ties .entry)) owed (now (stores .entry)) r (now (image .exit)) (now (dst .exit)) (now (go .exit)) (now (ties .exit)) (now (stores .exit)) ⌝ }
 {
     if meets_dst(i.op) {
@@ -161,7 +166,7 @@ fn step_lanes(
             owed,
         };
     }
-    let due = step_stored(s, i, image, go, fixed, ties, owed, stores);
+    let due = step_stored(s, i, image, go, fixed, masks, ties, owed, stores);
     Onward { cursor, owed: due }
 }
 
@@ -181,6 +186,7 @@ pub(crate) fn step_all(
     let mut go = [0u32; 128];
     enabled_row(image, &mut go);
     let fixed = fixed_rows();
+    let masks = MASKS;
     let mut ties = [0u32; 8];
     let mut stores = [0u32; 8];
     let mut owed: u32 = 0;
@@ -200,6 +206,7 @@ pub(crate) fn step_all(
                 dst,
                 &mut go,
                 &fixed,
+                &masks,
                 &mut ties,
                 owed,
                 &mut stores,

@@ -11,7 +11,7 @@ use lane::Insn;
 use lane::swap::compared;
 use lane::swap::in_mask;
 use lane::swap::is_below;
-use lane::swap::mask_of;
+use lane::swap::mask_in;
 use lane::words::LANE_CONFIG;
 ghost use mathlib.Core.Path.{_≡_};
 ghost use mathlib.Core.Bool.{Bool, _&&_, _||_};
@@ -71,18 +71,25 @@ fn swap_masks(
 }
 
 // The same for an instruction. Each call but the last has constants for the tests, so that each has a loop of its own once compiled.
-fn masks_of(image: &[u32], i: Insn, c: &[u32; 32], d: &[u32; 32], t: &mut [u32]) -> u32
-    requires { ⌜ (length (now image) ≡ 768) × Rows.Enabled (now t) (now image) ⌝ }
+fn masks_of(
+    image: &[u32],
+    i: Insn,
+    masks: &[u32; 16],
+    c: &[u32; 32],
+    d: &[u32; 32],
+    t: &mut [u32],
+) -> u32
+    requires { ⌜ (length (now image) ≡ 768) × (Rows.Enabled (now t) (now image) × (now masks ≡ Rules.masks)) ⌝ }
     ensures { λ r. ⌜ (now (t .exit) ≡ Swaps.swapRows i (now (c .entry)) (now (d .entry)) (now (image .entry))) × (r ≡ 0 → Swaps.NoIndex (now (t .exit))) ⌝ }
 {
     if i.vd < 12 {
         if i.md == 0 {
             swap_masks(image, true, true, 0, c, d, t)
         } else {
-            swap_masks(image, false, true, mask_of(i.md), c, d, t)
+            swap_masks(image, false, true, mask_in(masks, i.md), c, d, t)
         }
     } else {
-        swap_masks(image, i.md == 0, false, mask_of(i.md), c, d, t)
+        swap_masks(image, i.md == 0, false, mask_in(masks, i.md), c, d, t)
     }
 }
 
@@ -198,16 +205,17 @@ pub(crate) fn swap(
     i: Insn,
     t: &mut [u32; 128],
     fixed: &[u32; 128],
+    masks: &[u32; 16],
     ties: &mut [u32],
     stores: &mut [u32],
 )
-    requires { ⌜ (length (now image) ≡ 768) × (Rows.Enabled (now t) (now image) × ((now fixed ≡ Rows.fixedRows) × (Steps.Room 4 (now ties) × Steps.Room 24 (now stores)))) ⌝ }
+    requires { ⌜ (length (now image) ≡ 768) × (Rows.Enabled (now t) (now image) × (((now fixed ≡ Rows.fixedRows) × (now masks ≡ Rules.masks)) × (Steps.Room 4 (now ties) × Steps.Room 24 (now stores)))) ⌝ }
     ensures { λ _. ⌜ (now (image .exit) ≡ Rows.storing (now (image .entry)) (λ L. Rules.swap i L (laneIn (now (image .entry)) L))) × (Rows.Enabled (now (t .exit)) (now (image .exit)) × ((now (ties .exit) ≡ Steps.counted (now (ties .entry)) (λ L. flagOf (Rules.tied i L (laneIn (now (image .entry)) L)))) × (now (stores .exit) ≡ Steps.counted (now (stores .entry)) (λ L. registerStores (Rules.swap i L (laneIn (now (image .entry)) L)))))) ⌝ }
 {
     let c = source(image, fixed, i.vc);
     let d = source(image, fixed, i.vd);
     count_ties(image, i, t, &c, &d, ties);
-    let seen = masks_of(image, i, &c, &d, t);
+    let seen = masks_of(image, i, masks, &c, &d, t);
     store_swaps(image, i, &c, &d, t, seen);
     count_swaps(i, t, seen, stores);
 }

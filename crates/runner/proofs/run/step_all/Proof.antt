@@ -8,15 +8,15 @@ use Rattle.runner.specs.PrivateSteps.{enabledIn}
 use borrow.Author.Needs.{needs}
 use lib.ListN.{length}
 use mathlib.Core.Logic.{⊎-elim}
-use mathlib.Core.Path.{sym, ap, _∙_}
+use mathlib.Core.Path.{refl, sym, ap, _∙_}
 use native.Mathlib.Omega.{arith}
 use Rattle.runner.proofs.run.step_all.Tie as tie
 
 abbrev Inv-loop : tie.InvT-loop
-Inv-loop s cursor image₀ dst₀ list count go₀ fixed ties₀ stores₀ owed₀ at₀ k₀ image dst go ties stores owed at k = (k ≤ count) × Reached s list dst₀ image₀ cursor k at image dst go ties stores owed
+Inv-loop s cursor image₀ dst₀ list count go₀ fixed masks ties₀ stores₀ owed₀ at₀ k₀ image dst go ties stores owed at k = (k ≤ count) × Reached s list dst₀ image₀ cursor k at image dst go ties stores owed
 
 abbrev μ-loop : tie.MeasureT-loop
-μ-loop s cursor image₀ dst₀ list count go₀ fixed ties₀ stores₀ owed₀ at₀ k₀ image dst go ties stores owed at k = count - k
+μ-loop s cursor image₀ dst₀ list count go₀ fixed masks ties₀ stores₀ owed₀ at₀ k₀ image dst go ties stores owed at k = count - k
 
 enabled-row-requires : tie.Need-enabled-row-requires Inv-loop μ-loop
 enabled-row-requires c κs = (c .before .before .before .before .before .pre .0, search needs)
@@ -31,13 +31,13 @@ step-flagged-requires : tie.Need-step-flagged-requires Inv-loop μ-loop
 step-flagged-requires c κs = let inv = c .before .before .before .before .before .before .before .before .loop .inv in let pre = c .before .before .before .before .before .before .before .before .before .before .before .before .before .before .before .before .pre in (inv .1 .long, (inv .1 .enabled-is, (c .before .before .before .before .before .before .before .before .before .fixed-rows .ensures, (room-owed _ _ _ _ _ _ _ (omega (arith, inv .0, pre .1 .1)) (inv .1 .few) (inv .1 .eight) (inv .1 .stores-is), sym (c .before .before .before .before .before .changes-flags .ensures) ∙ c .before .before .before .before .if1 .taken))))
 
 slice-aggregate-step-lanes : tie.Need-slice-aggregate-step-lanes Inv-loop μ-loop
-slice-aggregate-step-lanes c = sym (ap length (c .before .before .before .before .before .before .before .before .before .loop .inv .1 .ties-is) ∙ length-build 8 _)
+slice-aggregate-step-lanes c = sym (ap length (c .before .before .before .before .before .before .before .before .before .before .loop .inv .1 .ties-is) ∙ length-build 8 _)
 
 slice-aggregate-step-lanes-2 : tie.Need-slice-aggregate-step-lanes-2 Inv-loop μ-loop
-slice-aggregate-step-lanes-2 c = sym (c .before .before .before .before .before .before .before .before .before .before .loop .inv .1 .eight)
+slice-aggregate-step-lanes-2 c = sym (c .before .before .before .before .before .before .before .before .before .before .before .loop .inv .1 .eight)
 
 step-lanes-requires : tie.Need-step-lanes-requires Inv-loop μ-loop
-step-lanes-requires c κs = let inv = c .before .before .before .before .before .before .before .before .before .before .loop .inv in let pre = c .before .before .before .before .before .before .before .before .before .before .before .before .before .before .before .before .before .before .pre in (inv .1 .long, (inv .1 .dst-long, (inv .1 .enabled-is, (c .before .before .before .before .before .before .before .before .before .before .before .fixed-rows .ensures, ((room-left _ _ _ _ _ (omega (arith, inv .0, pre .1 .1)) (inv .1 .ties-is), room-owed _ _ _ _ _ _ _ (omega (arith, inv .0, pre .1 .1)) (inv .1 .few) (inv .1 .eight) (inv .1 .stores-is)), sym (c .before .before .before .before .before .before .before .changes-flags .ensures) ∙ c .before .before .before .before .before .before .if1 .left)))))
+step-lanes-requires c κs = let inv = c .before .before .before .before .before .before .before .before .before .before .before .loop .inv in let pre = c .before .before .before .before .before .before .before .before .before .before .before .before .before .before .before .before .before .before .before .pre in (inv .1 .long, (inv .1 .dst-long, (inv .1 .enabled-is, ((c .before .before .before .before .before .before .before .before .before .before .before .before .fixed-rows .ensures, refl), ((room-left _ _ _ _ _ (omega (arith, inv .0, pre .1 .1)) (inv .1 .ties-is), room-owed _ _ _ _ _ _ _ (omega (arith, inv .0, pre .1 .1)) (inv .1 .few) (inv .1 .eight) (inv .1 .stores-is)), sym (c .before .before .before .before .before .before .before .before .changes-flags .ensures) ∙ c .before .before .before .before .before .before .before .if1 .left)))))
 
 add-k : tie.Need-add-k Inv-loop μ-loop
 add-k c = omega (arith, c .before .before .before .loop-test .taken, c .before .before .before .before .loop .inv .0, c .before .before .before .before .before .before .before .before .before .before .before .before .pre .1 .1)
@@ -51,7 +51,7 @@ loop-again c =
       omega arith,
       ⊎-elim
           (λ w. reached-same _ _ _ _ _ _ _ _ _ _ _ _ _ _ _ _ _ _ _ _ (w .9) (w .10) (w .11) (w .12) (w .13) (w .14) (w .15) (reached-more _ _ _ _ _ _ _ _ _ _ _ _ _ _ _ _ _ _ _ _ inv i (flagged-left _ _ _ _ _ _ _ _ _ _ _ (sym flags ∙ w .0 .taken) (inv .dst-long) (ap length (inv .ties-is) ∙ length-build 8 _) (w .5 .ensures))))
-          (λ w. reached-same _ _ _ _ _ _ _ _ _ _ _ _ _ _ _ _ _ _ _ _ (w .14) (w .15) (w .16) (w .17) (w .18) (w .19) (w .20) (reached-more _ _ _ _ _ _ _ _ _ _ _ _ _ _ _ _ _ _ _ _ inv i (w .7 .ensures)))
+          (λ w. reached-same _ _ _ _ _ _ _ _ _ _ _ _ _ _ _ _ _ _ _ _ (w .15) (w .16) (w .17) (w .18) (w .19) (w .20) (w .21) (reached-more _ _ _ _ _ _ _ _ _ _ _ _ _ _ _ _ _ _ _ _ inv i (w .8 .ensures)))
           (c .if1 .came),
     )
 

@@ -7,7 +7,7 @@ use native.Mathlib.Omega.{arith}
 use Rattle.runner.proofs.run.step_lanes.Tie as tie
 
 step-dst-requires : tie.Need-step-dst-requires
-step-dst-requires c κs = let pre = c .before .before .before .before .before .before .before .before .before .before .before .pre in (pre .0, (pre .1 .0, (pre .1 .1 .0, (pre .1 .1 .1 .0, ((omega (arith, c .before .before .before .before .address .ensures), room-less 24 _ _ (omega arith) (pre .1 .1 .1 .1 .0 .1)), sym (c .before .before .before .before .before .before .meets-dst .ensures) ∙ c .before .before .before .before .before .if1 .taken)))))
+step-dst-requires c κs = let pre = c .before .before .before .before .before .before .before .before .before .before .before .pre in (pre .0, (pre .1 .0, (pre .1 .1 .0, (pre .1 .1 .1 .0 .0, ((omega (arith, c .before .before .before .before .address .ensures), room-less 24 _ _ (omega arith) (pre .1 .1 .1 .1 .0 .1)), sym (c .before .before .before .before .before .before .meets-dst .ensures) ∙ c .before .before .before .before .before .if1 .taken)))))
 
 returns : tie.Need-returns
 returns c = let pre = c .before .before .before .before .before .before .before .before .before .before .before .before .before .before .before .before .before .before .before .before .pre in met-left _ _ _ _ _ _ _ _ _ _ _ (c .before .before .before .before .before .before .before .before .before .before .before .before .before .before .before .before .before .before .before .before .args .owed) _ _ (sym (c .before .before .before .before .before .before .before .before .before .before .before .before .before .before .before .meets-dst .ensures) ∙ c .before .before .before .before .before .before .before .before .before .before .before .before .before .before .if1 .taken) (pre .1 .1 .1 .1 .0 .0 .eight) (c .before .before .before .before .before .before .before .before .before .before .before .before .before .address .ensures) (rw (c .before .stride .ensures) at (c .next-cursor .ensures)) (c .before .before .before .before .before .before .before .before .step-dst .ensures (c .before .before .before .before .before .before .before .before .before .before .before .before .before .before .before .before .before .before .before .before .args .owed))

@@ -25,7 +25,7 @@ config-requires : tie.Need-config-requires
 config-requires c κs = let pre = c .before .before .before .before .before .before .pre in (pre .0, room-less 24 _ _ (omega arith) (pre .1 .1 .1 .0 .1))
 
 step-noted-requires : tie.Need-step-noted-requires
-step-noted-requires c κs = let pre = c .before .before .before .before .before .before .pre in let rest = c .before .before .match .rest in (pre .0, (pre .1 .0, (pre .1 .1 .0, record { meets-no-dst = pre .1 .1 .1 .1 .0; changes-no-flags = pre .1 .1 .1 .1 .1; no-lut = ne-eqb _ _ (rest .0 .0 .0 .1); no-swap = ne-eqb _ _ (rest .0 .0 .1); no-config = ne-eqb _ _ (rest .0 .1); no-nop = ne-eqb _ _ (rest .1) })))
+step-noted-requires c κs = let pre = c .before .before .before .before .before .before .pre in let rest = c .before .before .match .rest in (pre .0, (pre .1 .0, (pre .1 .1 .0 .0, record { meets-no-dst = pre .1 .1 .1 .1 .0; changes-no-flags = pre .1 .1 .1 .1 .1; no-lut = ne-eqb _ _ (rest .0 .0 .0 .1); no-swap = ne-eqb _ _ (rest .0 .0 .1); no-config = ne-eqb _ _ (rest .0 .1); no-nop = ne-eqb _ _ (rest .1) })))
 
 add-result : tie.Need-add-result
 add-result c = omega (arith, c .before .before .before .before .before .before .before .before .before .before .pre .1 .1 .1 .0 .1 .free 0 (omega arith), c .once .ensures, flag-small (ltb (c .before .before .before .before .before .before .before .before .before .before .args .i .vd) 8))

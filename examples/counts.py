@@ -1,5 +1,5 @@
 #!/usr/bin/env python3
-"""examples/ties.py FILE: replays a listing and prints how many ties its SWAPs met in each of the eight columns."""
+"""examples/counts.py FILE: replays a listing and prints, for each of the eight columns, how many ties its SWAPs met and how many stores it made to registers."""
 
 import os
 import sys
@@ -15,9 +15,9 @@ def main(file):
         outcome = replay.run(settings, replay.image(), replay.dst(), words)
     if not outcome.done:
         return f"refused by {outcome.answer} at {outcome.place}: {outcome.text}"
-    print(f"ties after {outcome.steps} steps")
-    for column, ties in enumerate(outcome.ties):
-        print(f"column {column}: {ties}")
+    print(f"after {outcome.steps} steps, of at most {16 * outcome.steps} stores a column")
+    for column, (ties, stores) in enumerate(zip(outcome.ties, outcome.stores)):
+        print(f"column {column}: {ties} ties, {stores} stores")
     return 0
 
 
