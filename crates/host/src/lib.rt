@@ -1,6 +1,9 @@
 // The replay for C and Rust hosts: what a host lends is laid out in words, and each function answers by the layers below.
 //
 // Every function here is total: it has a promise that settles its answer and every lent word, and no `requires`.
+
+#![tactic(auto)]
+
 ghost use Rattle.std.specs.Prelude.{◌≡◌, length, get_or};
 ghost use Rattle.lane.specs.Refusals.{lane_step};
 ghost use Rattle.runner.specs.Run.{outcome_of, run_image, run_dst};

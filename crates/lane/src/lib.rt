@@ -2,6 +2,8 @@
 //
 // Public is what another crate calls. All of it is total: it has a promise and no `requires`. The promises cite specs/, which renders document 01.
 
+#![tactic(auto)]
+
 // A lane's 24 words: the slots, the registers, enabled.
 pub mod words;
 // LOAD's address, conversions and cursor; LOADI.
@@ -24,7 +26,7 @@ mod dst;
 pub mod step;
 
 // A run's settings, in the listing's order.
-#[derive(Drop)]
+#[derive(Clone, Copy)]
 pub struct Settings {
     pub edition: u32,
     pub srcb: u32,
@@ -37,7 +39,7 @@ pub struct Settings {
 }
 
 // An instruction's six numbers, in the list's order; `md` is mod.
-#[derive(Drop)]
+#[derive(Clone, Copy)]
 pub struct Insn {
     pub op: u32,
     pub imm: u32,
@@ -48,7 +50,7 @@ pub struct Insn {
 }
 
 // What an op's fields may hold: the largest number for each, and the mods allowed, mod m as bit m.
-#[derive(Drop)]
+#[derive(Clone, Copy)]
 struct Limits {
     imm: u32,
     vb: u32,
@@ -58,14 +60,14 @@ struct Limits {
 }
 
 // A lane's two cells of Dst, those of its row and column at an address.
-#[derive(Drop)]
+#[derive(Clone, Copy)]
 pub struct Cells {
     pub even: u16,
     pub odd: u16,
 }
 
 // What the lane rules answer: a number of the clerk's, and the lane's words and its two cells afterwards.
-#[derive(Drop)]
+#[derive(Clone, Copy)]
 pub struct Stepped {
     pub answer: u32,
     pub words: [u32; 24],
@@ -73,7 +75,7 @@ pub struct Stepped {
 }
 
 // How one word ranks against another, in SWAP's order.
-#[derive(Drop)]
+#[derive(Clone, Copy)]
 pub enum Order {
     Below,
     Equal,
@@ -81,14 +83,14 @@ pub enum Order {
 }
 
 // A piece of a LUT: what a coefficient word's two bytes stand for.
-#[derive(Drop)]
+#[derive(Clone, Copy)]
 pub struct Piece {
     pub slope: f32,
     pub intercept: f32,
 }
 
 // One lane's LUT answer: a number with its register, or nothing stored.
-#[derive(Drop)]
+#[derive(Clone, Copy)]
 pub enum LutAnswer {
     Number(f32, u32),
     Nothing,

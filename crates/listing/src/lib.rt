@@ -2,6 +2,8 @@
 //
 // Everything public is total: it has a promise and no `requires`. The promises cite specs/, which renders document 01.
 
+#![tactic(auto)]
+
 // One scan and one render over all forms.
 mod forms;
 // The reader that keeps hold of the text.
@@ -20,7 +22,7 @@ mod report;
 pub mod program;
 
 // What a reading returns: the settings, the outcome, and how many words of the lent room the list takes.
-#[derive(Drop)]
+#[derive(Clone, Copy)]
 pub struct Reading {
     pub settings: lane::Settings,
     pub answer: u32,
@@ -31,7 +33,7 @@ pub struct Reading {
 }
 
 // What a writing returns: the outcome, and how many bytes of the lent room the listing takes.
-#[derive(Drop)]
+#[derive(Clone, Copy)]
 pub struct Writing {
     pub answer: u32,
     pub steps: u32,
@@ -41,14 +43,14 @@ pub struct Writing {
 }
 
 // What the program's work returns: the number in the report, and how many bytes of the lent room the report takes.
-#[derive(Drop)]
+#[derive(Clone, Copy)]
 pub struct Reporting {
     pub answer: u32,
     pub length: usize,
 }
 
 // An item scanned in a text: whether it is there, the position after it, and its number, if it has one.
-#[derive(Drop)]
+#[derive(Clone, Copy)]
 struct Got {
     good: bool,
     at: usize,
@@ -58,7 +60,7 @@ struct Got {
 
 // A form scanned in a text: whether it is there, the position and the line after it or else those of the fault, how many numbers were
 // found, and the numbers.
-#[derive(Drop)]
+#[derive(Clone, Copy)]
 struct Scanned {
     good: bool,
     at: usize,
@@ -68,7 +70,7 @@ struct Scanned {
 }
 
 // An instruction line as a whole: whether it is plainly in form, the position after it, and its instruction.
-#[derive(Drop)]
+#[derive(Clone, Copy)]
 struct Line {
     good: bool,
     at: usize,
@@ -76,7 +78,7 @@ struct Line {
 }
 
 // Lines that are plainly in form, from a position on: how many, and the position after them.
-#[derive(Drop)]
+#[derive(Clone, Copy)]
 struct Plain {
     lines: u32,
     at: usize,
@@ -84,7 +86,7 @@ struct Plain {
 
 // The rest of a text, its instruction lines: whether all are there, the position and the line after them or else those of the fault, and
 // the first refused instruction's number and index, or 0 and 0.
-#[derive(Drop)]
+#[derive(Clone, Copy)]
 struct Rest {
     good: bool,
     at: usize,

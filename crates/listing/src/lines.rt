@@ -53,7 +53,7 @@ pub(crate) const HIGHS: [u8; 816] = *b"\
     op=STORE imm=99999 vb=99 vc=99 vd=99 mod=99\n\x7F\x7F\x7F\x7F";
 
 // An op, and how many bytes its line has.
-#[derive(Drop)]
+#[derive(Clone, Copy)]
 struct Guessed {
     op: u32,
     length: usize,

@@ -1,5 +1,8 @@
 // A host's use of the register view: it writes lanes of a stored register in its own image and reads them back, and is handed an empty part for a
 // register that is never stored.
+
+#![tactic(auto)]
+
 ghost use Rattle.std.specs.Prelude.{◌≡◌, get_or};
 ghost use Rattle.runner.specs.Image.{view};
 ghost use Rattle.registers.specs.Put.{with_lane};

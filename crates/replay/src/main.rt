@@ -3,6 +3,9 @@
 //
 // A program of Rattle has no exit status, so it tells by what it prints: where standard input can't be read there is no report, but a word on
 // standard error. bin/replay takes that for exit 2.
+
+#![tactic(auto)]
+
 mod input;
 
 use libc::{STDERR_FILENO, STDIN_FILENO, STDOUT_FILENO};

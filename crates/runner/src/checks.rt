@@ -33,7 +33,7 @@ fn image_good(image: &[u32]) -> bool
 
 // The bits that an instruction's fields may not have, two fields to a word, and the mods that draw no refusal: mod m as bit m where vb is 0, as
 // bit 16 + m where it isn't.
-#[derive(Drop)]
+#[derive(Clone, Copy)]
 struct Over {
     left: u64,
     middle: u64,

@@ -3,6 +3,8 @@
 //
 // An operation works by rows: it copies the rows that it reads, then goes through the 32 lanes once, in place, storing under a mask.
 
+#![tactic(auto)]
+
 // The checks of a run, and of a list alone.
 pub mod checks;
 // Rows of words and of masks, one for each lane.
@@ -36,14 +38,14 @@ ghost use Rattle.runner.specs.Checks as Checks;
 use lane::Insn;
 
 // What a check found: a number of the clerk's, 0 for none, and its place.
-#[derive(Drop)]
+#[derive(Clone, Copy)]
 pub struct Found {
     pub answer: u32,
     pub place: u32,
 }
 
 // What a run returns; `ties` and `stores` are the columns' counts.
-#[derive(Drop)]
+#[derive(Clone, Copy)]
 pub struct Outcome {
     pub answer: u32,
     pub steps: u32,
@@ -54,7 +56,7 @@ pub struct Outcome {
 }
 
 // What the steps through a list end with, beside the image and the Dst.
-#[derive(Drop)]
+#[derive(Clone, Copy)]
 struct Ended {
     cursor: u32,
     ties: [u32; 8],
@@ -62,7 +64,7 @@ struct Ended {
 }
 
 // What an instruction goes on with: the cursor, and the stores that are owed to each lane that is enabled.
-#[derive(Drop)]
+#[derive(Clone, Copy)]
 struct Onward {
     cursor: u32,
     owed: u32,

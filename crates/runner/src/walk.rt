@@ -15,14 +15,14 @@ use lane::refuse::instruction_answer;
 use lane::{Insn, Settings};
 
 // Where a walk stands: how many steps are done, and the cursor.
-#[derive(Drop)]
+#[derive(Clone, Copy)]
 pub struct Walk {
     pub at: u32,
     pub cursor: u32,
 }
 
 // What the start of a walk returns: what a run's checks found, and the walk.
-#[derive(Drop)]
+#[derive(Clone, Copy)]
 pub struct Begun {
     pub answer: u32,
     pub place: u32,
@@ -30,7 +30,7 @@ pub struct Begun {
 }
 
 // What a step returns: a number of the clerk's, and where the walk stands then.
-#[derive(Drop)]
+#[derive(Clone, Copy)]
 pub struct Walked {
     pub answer: u32,
     pub walk: Walk,

@@ -1,6 +1,8 @@
 // Cases on standard input, in the form of tests/CASES.md: each is run by the proved code, and its answer printed as one line. Cases are made
 // by the independent program alone.
 
+#![tactic(auto)]
+
 // Numbers from standard input.
 mod form;
 // Images, Dsts and lists.
