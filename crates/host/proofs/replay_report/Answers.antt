@@ -1,0 +1,14 @@
+use lib.ListN.{length}
+use Rattle.listing.specs.Program.{output}
+use Rattle.host.proofs.Told.{told-report}
+use borrow.Author.Rules.{rules}
+use Rattle.host.proofs.replay_report.Goals as goal
+
+pub returns : goal.returns
+returns c =
+    told-report
+    (output c.args.text.now)
+    c.args.room.now
+    _
+    c.replay-put.result
+    c.replay-put.ensures

@@ -1,0 +1,5 @@
+use Rattle.std.proofs.Common.{rules}
+use Rattle.lane.proofs.compute.lz_word.Goals as goal
+
+pub returns : goal.returns
+returns c = simp c.lz_operand.ensures

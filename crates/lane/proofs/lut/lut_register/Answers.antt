@@ -1,0 +1,12 @@
+use Rattle.std.proofs.Common.{rules}
+use Rattle.lane.proofs.Cases.{cases}
+use Rattle.lane.specs.Lut.{lut_register}
+use Rattle.lane.proofs.lut.lut_register.Goals as goal
+
+pub returns-then-m-eq1 : goal.returns-then-m-eq1
+unfolding lut_register
+returns-then-m-eq1 c = search (rules, cases) depth 12
+
+pub returns-else-m-eq1 : goal.returns-else-m-eq1
+unfolding lut_register
+returns-else-m-eq1 c = search (rules, cases) depth 12

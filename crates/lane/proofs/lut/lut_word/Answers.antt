@@ -1,0 +1,5 @@
+use Rattle.std.proofs.Common.{rules}
+use Rattle.lane.proofs.lut.lut_word.Goals as goal
+
+pub returns : goal.returns
+returns c = simp (c.signed.ensures, c.flushed.ensures, c.bits_of.ensures)

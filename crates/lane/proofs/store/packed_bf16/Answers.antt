@@ -1,0 +1,7 @@
+use Rattle.std.proofs.Common.{refl, rules}
+use Rattle.lane.specs.Store.{packed_bf16}
+use Rattle.lane.proofs.store.packed_bf16.Goals as goal
+
+pub returns : goal.returns
+unfolding packed_bf16
+returns c = refl

@@ -1,0 +1,5 @@
+use Rattle.std.proofs.Common.{rules}
+use Rattle.lane.proofs.swap.acts.Goals as goal
+
+pub returns : goal.returns
+returns c = simp c.enabled.ensures

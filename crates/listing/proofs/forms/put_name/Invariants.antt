@@ -1,0 +1,17 @@
+use Prim.Native.Nat.{◌<◌, ◌≤◌, ◌+◌, ◌-◌}
+use borrow.Author.Rules.{rules}
+use lib.ListN.{length, take, length-set}
+use mathlib.Core.Path.{refl, sym, ◌≡◌}
+use native.Mathlib.Nat.{add-zero}
+use native.Mathlib.Omega.{arith}
+use Rattle.listing.proofs.Names.{cell_at, length_at, length_name}
+use Rattle.listing.proofs.Rooms.{name_whole, list_grows, grown_none}
+use Rattle.listing.specs.Forms.{spell, bytes, name_of}
+use Rattle.listing.specs.PrivatePlaces.{Grown}
+use Rattle.listing.proofs.forms.put_name.Given as goal
+
+abbrev pub invariant-loop-i : goal.invariant-loop-i
+invariant-loop-i l = (l.i ≤ l.n) × (l.n ≡ length (name_of l.op)) × (Grown l.at (l.at + l.i) l.initial.out l.out (take l.i (name_of l.op))) × (l.n < 8) × (length l.out ≡ length l.initial.out)
+
+abbrev pub decreases-loop-i : goal.decreases-loop-i
+decreases-loop-i l = l.n - l.i

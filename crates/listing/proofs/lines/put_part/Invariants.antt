@@ -1,0 +1,15 @@
+use Prim.Native.Nat.{◌≤◌, ◌+◌, ◌-◌}
+use lib.ListN.{length, take, drop, length-set, length-drop}
+use lib.Seq.{get_or-drop}
+use mathlib.Core.Path.{refl, ◌≡◌}
+use native.Mathlib.Nat.{add-zero}
+use native.Mathlib.Omega.{arith}
+use Rattle.listing.specs.PrivatePlaces.{Grown}
+use Rattle.listing.proofs.Rooms.{grown_none, list_grows}
+use Rattle.listing.proofs.lines.put_part.Given as goal
+
+abbrev pub invariant-loop-j : goal.invariant-loop-j
+invariant-loop-j l = (l.j ≤ l.n) × (Grown l.at (l.at + l.j) l.initial.out l.out (take l.j (drop l.from l.bytes))) × (length l.out ≡ length l.initial.out)
+
+abbrev pub decreases-loop-j : goal.decreases-loop-j
+decreases-loop-j l = l.n - l.j

@@ -1,0 +1,13 @@
+use Prim.Native.Nat.{◌≤◌, ◌+◌, ◌-◌, ◌<◌, ℕ}
+use lib.ListN.{length, get_or}
+use mathlib.Core.Path.{◌≡◌}
+use mathlib.Core.Bool.{true}
+use native.Mathlib.Omega.{arith}
+use Rattle.listing.proofs.LineRows.{Standing, standing_start, standing_more, standing_end}
+use Rattle.listing.proofs.lines.stands.Given as goal
+
+abbrev pub invariant-loop-j : goal.invariant-loop-j
+invariant-loop-j l = (l.j ≤ 48) × Standing l.lows l.highs l.text l.at l.from l.good l.j
+
+abbrev pub decreases-loop-j : goal.decreases-loop-j
+decreases-loop-j l = 48 - l.j

@@ -1,0 +1,23 @@
+use mathlib.Core.Path.{sym}
+use lib.ListN.{take}
+use lib.Seq.{length-take-le}
+use native.Mathlib.Omega.{arith}
+use Rattle.listing.proofs.Programs.{output_fits, held_list, held_accepted, rewritten_read, rewritten_refused}
+use borrow.Author.Rules.{rules}
+use Rattle.listing.proofs.program.rewrite.Goals as goal
+
+pub slice_bounds-list-end : goal.slice_bounds-list-end
+slice_bounds-list-end c = let f = output_fits c.args.text.now c.read_held-reading.result c.read_held-reading.ensures.told c.if-reading-eq0.true in omega (arith, f, c.read_held-reading.auto.list)
+
+pub slice_bounds-written-end : goal.slice_bounds-written-end
+slice_bounds-written-end c = let f = output_fits c.args.text.now c.read_held-reading.result c.read_held-reading.ensures.told c.if-reading-eq0.true in sym (length-take-le c.read_held-reading.result.length c.read_held-reading.new.list (omega (arith, f, c.read_held-reading.auto.list)))
+
+pub written-requires : goal.written-requires
+written-requires c = held_accepted c.args.text.now c.read_held-reading.result c.read_held-reading.ensures.told _ c.if-reading-eq0.true (held_list c.args.text.now c.read_held-reading.result c.read_held-reading.ensures.told c.if-reading-eq0.true _ _ c.read_held-reading.ensures.put)
+
+pub returns-then-reading-eq0 : goal.returns-then-reading-eq0
+returns-then-reading-eq0 c = let r = c.read_held-reading in
+    rw (rewritten_read c.args.text.now r.result r.ensures.told (take r.result.length r.new.1.0) c.if-reading-eq0.true (held_list c.args.text.now r.result r.ensures.told c.if-reading-eq0.true _ _ r.ensures.put)) at c.written.ensures
+
+pub returns-else-reading-eq0 : goal.returns-else-reading-eq0
+returns-else-reading-eq0 c = rw (rewritten_refused c.args.text.now c.read_held-reading.result c.read_held-reading.ensures.told c.if-reading-eq0.false) at c.refusal_reported.ensures

@@ -1,0 +1,15 @@
+use Prim.Native.Nat.{◌≤◌, ◌+◌, ◌-◌}
+use borrow.Author.Rules.{rules}
+use lib.ListN.{length, take, length-set}
+use mathlib.Core.Path.{refl, ◌≡◌}
+use native.Mathlib.Nat.{add-zero}
+use native.Mathlib.Omega.{arith}
+use Rattle.listing.proofs.Rooms.{grown_none, list_grows}
+use Rattle.listing.specs.PrivatePlaces.{Grown}
+use Rattle.listing.proofs.reader.put_words.Given as goal
+
+abbrev pub invariant-loop-i : goal.invariant-loop-i
+invariant-loop-i l = (l.i ≤ l.count) × (Grown l.place (l.place + l.i) l.initial.words l.words (take l.i l.numbers)) × (length l.words ≡ length l.initial.words)
+
+abbrev pub decreases-loop-i : goal.decreases-loop-i
+decreases-loop-i l = l.count - l.i

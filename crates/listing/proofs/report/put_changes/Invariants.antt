@@ -1,0 +1,12 @@
+use Prim.Native.Nat.{◌-◌}
+use borrow.Author.Rules.{rules}
+use native.Mathlib.Omega.{arith}
+use Rattle.lane.specs.Words.{after}
+use Rattle.listing.proofs.Reports.{changing_start, changing_more, changing_end, Changing}
+use Rattle.listing.proofs.report.put_changes.Given as goal
+
+abbrev pub invariant-loop-p : goal.invariant-loop-p
+invariant-loop-p l = Changing l.before l.after l.place l.initial.page l.page l.at l.p
+
+abbrev pub decreases-loop-p : goal.decreases-loop-p
+decreases-loop-p l = 384 - l.p

@@ -1,0 +1,28 @@
+use borrow.Author.Rules.{rules}
+use native.Mathlib.Omega.{arith}
+use Rattle.listing.proofs.Reports.{answer_widest, outcome_widest, outcome_grows}
+use Rattle.listing.proofs.Walks.{render_room}
+use Rattle.listing.specs.Forms.{spell, bytes}
+use Rattle.listing.proofs.report.put_outcome.Goals as goal
+
+pub render-at-requires : goal.render-at-requires
+unfolding bytes spell
+render-at-requires c = (omega arith, render_room _ _ _ _ _ answer_widest (omega (arith, c.requires)))
+
+pub put_number-requires : goal.put_number-requires
+unfolding bytes spell
+put_number-requires c = (omega (arith, c.requires, c.width-w.ensures.1, c.render-at.auto.out, c.render-at.ensures.within, answer_widest), omega arith, omega arith)
+
+pub overflow_add-at : goal.overflow_add-at
+unfolding bytes spell
+overflow_add-at c = omega (arith, c.width-w.ensures.1, c.render-at.ensures.within, answer_widest)
+
+pub render-requires : goal.render-requires
+unfolding bytes spell
+render-requires c = (omega arith, render_room _ _ _ _ _ outcome_widest (omega (arith, c.requires, c.width-w.ensures.1, c.render-at.auto.out, c.put_number.auto.out, c.render-at.ensures.within, answer_widest)))
+
+pub returns : goal.returns
+unfolding bytes spell
+returns c = let a = c.args in
+    outcome_grows a.answer a.steps a.place a.cursor c.width-w.result c.render-at.result c.render.result a.page.now c.render-at.new.out c.put_number.new.out c.render.new.out
+    c.width-w.ensures.0 c.width-w.ensures.1 c.render-at.ensures c.put_number.ensures c.render.ensures

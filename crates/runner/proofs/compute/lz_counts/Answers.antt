@@ -1,0 +1,13 @@
+use Rattle.std.proofs.Common.{ℕ, ◌-◌, get_or, arith, rules}
+use Rattle.runner.proofs.Filled.{Filled, fill_start, fill_more, fill_end}
+use Rattle.runner.specs.PrivateCompute.{lz_count}
+use Rattle.runner.proofs.compute.lz_counts.Goals as goal
+
+pub loop-n-init : goal.loop-n-init
+loop-n-init c = fill_start _ _ (search rules)
+
+pub loop-n-preserved : goal.loop-n-preserved
+loop-n-preserved c = fill_more _ _ _ _ c.loop-n-test.true c.loop-n.invariant (c.lz_count.ensures _ c.lz_limit-limit.ensures)
+
+pub returns : goal.returns
+returns c = fill_end _ _ _ c.loop-n-test.false c.loop-n.invariant

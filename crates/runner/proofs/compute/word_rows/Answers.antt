@@ -1,0 +1,21 @@
+use Rattle.std.proofs.Common.{ℕ, ◌-◌, get_or, sym, ◌∙◌, arith, rules}
+use Rattle.lane.specs.Words.{Lane}
+use Rattle.runner.proofs.Enabled.{enabled_turn}
+use Rattle.runner.proofs.Lanes.{Turned, turn_start, turned_length, turn_more, turn_end}
+use Rattle.runner.specs.PrivateCompute.{word_with}
+use Rattle.runner.proofs.compute.word_rows.Goals as goal
+
+pub loop-n-init : goal.loop-n-init
+loop-n-init c = turn_start _ _ c.requires.0
+
+pub word_put-requires : goal.word_put-requires
+word_put-requires c = (turned_length _ _ _ _ c.loop-n.invariant, (c.loop-n-test.true, (c.requires.1.1, enabled_turn _ _ _ _ _ c.requires.0 c.loop-n-test.true c.requires.1.0 c.loop-n.invariant)))
+
+pub loop-n-preserved : goal.loop-n-preserved
+loop-n-preserved c = turn_more _ _ _ _ _ c.requires.0 c.loop-n-test.true c.loop-n.invariant c.word_put.ensures
+
+pub shape_of-image : goal.shape_of-image
+shape_of-image c = turned_length _ _ _ _ c.loop-n.invariant ∙ sym c.requires.0
+
+pub returns : goal.returns
+returns c = turn_end _ _ _ _ c.loop-n-test.false c.loop-n.invariant

@@ -1,0 +1,13 @@
+use Rattle.std.proofs.Common.{ℕ, ◌-◌, ◌%◌, [], ◌∷◌, get_or, sym, ◌∙◌, arith, rules}
+use Rattle.lane.specs.Words.{pick, Lane}
+use Rattle.runner.proofs.ConfigRows.{reached_at}
+use Rattle.runner.proofs.Lanes.{Turned, turn_start, turned_length, turn_more, turn_end}
+use Rattle.runner.specs.PrivateConfig.{reached, written}
+use Rattle.runner.specs.Image.{lane_in}
+use Rattle.runner.proofs.config.config_rows.Given as goal
+
+abbrev pub invariant-loop-n : goal.invariant-loop-n
+invariant-loop-n l = Turned (λ (L : ℕ) (own : Lane). pick (reached l.i (lane_in l.initial.image (L % 8)) (L % 8)) ((l.slot, written l.i.vd l.i.md (get_or l.values L 0) (own l.slot)) ∷ []) []) l.initial.image l.n l.image
+
+abbrev pub decreases-loop-n : goal.decreases-loop-n
+decreases-loop-n l = 32 - l.n

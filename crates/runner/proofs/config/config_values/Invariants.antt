@@ -1,0 +1,12 @@
+use Rattle.std.proofs.Common.{ℕ, ◌-◌, ◌%◌, arith, rules}
+use Rattle.runner.proofs.ConfigRows.{column_more, column_end}
+use Rattle.runner.proofs.Filled.{Spread, spread_start}
+use Rattle.runner.specs.PrivateConfig.{config_value}
+use Rattle.runner.specs.Image.{lane_in}
+use Rattle.runner.proofs.config.config_values.Given as goal
+
+abbrev pub invariant-loop-j : goal.invariant-loop-j
+invariant-loop-j l = Spread (λ (p : ℕ). config_value l.edition l.i (lane_in l.image (p % 8) 0)) 8 32 l.j l.values
+
+abbrev pub decreases-loop-j : goal.decreases-loop-j
+decreases-loop-j l = 8 - l.j

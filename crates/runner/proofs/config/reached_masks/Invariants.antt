@@ -1,0 +1,13 @@
+use Rattle.std.proofs.Common.{ℕ, ◌-◌, ◌%◌, arith, rules}
+use Rattle.runner.proofs.ConfigRows.{column_more, column_end}
+use Rattle.runner.proofs.Filled.{Spread, spread_start}
+use Rattle.runner.specs.PrivateConfig.{reached, reached_in}
+use Rattle.runner.specs.Image.{lane_in}
+use Rattle.runner.specs.PrivateRows.{full}
+use Rattle.runner.proofs.config.reached_masks.Given as goal
+
+abbrev pub invariant-loop-j : goal.invariant-loop-j
+invariant-loop-j l = Spread (λ (p : ℕ). full (reached l.i (lane_in l.image (p % 8)) (p % 8))) 8 32 l.j l.masks
+
+abbrev pub decreases-loop-j : goal.decreases-loop-j
+decreases-loop-j l = 8 - l.j

@@ -1,0 +1,15 @@
+use Rattle.std.proofs.Common.{ℕ, ◌+◌, ◌-◌, ◌*◌, ◌%◌, ◌&&◌, get_or, sym, ap, ◌∙◌, arith, rules}
+use Rattle.lane.specs.Load.{captures}
+use Rattle.lane.specs.Words.{Lane, lane_config}
+use Rattle.runner.proofs.Filled.{Filled, fill_start, fill_more, fill_end}
+use Rattle.runner.proofs.Lanes.{turn_start, turned_length, turn_lane, turn_end, Turned}
+use Rattle.runner.proofs.LoadRows.{masked_turn, capture_mask, capture_made}
+use Rattle.runner.specs.PrivateLoad.{is_open, is_caught, caught_in, captured_only}
+use Rattle.runner.specs.PrivateRows.{full}
+use Rattle.runner.proofs.load.capture_rows.Given as goal
+
+abbrev pub invariant-loop-n : goal.invariant-loop-n
+invariant-loop-n l = Turned (λ (L : ℕ) (own : Lane). captured_only l.vd (l.first + 2 * L + get_or l.odds L 0 % 2) own) l.initial.image l.n l.image × Filled (λ (L : ℕ). full (is_caught l.vd l.initial.image L)) l.n l.caught
+
+abbrev pub decreases-loop-n : goal.decreases-loop-n
+decreases-loop-n l = 32 - l.n

@@ -1,0 +1,13 @@
+use Rattle.std.proofs.Common.{ℕ, ◌-◌, arith, rules}
+use Rattle.runner.proofs.Filled.{Filled, fill_start, fill_more, fill_end}
+use Rattle.runner.proofs.LoadRows.{open_mask}
+use Rattle.runner.specs.Image.{lane_in}
+use Rattle.runner.specs.PrivateLoad.{is_open, open_in}
+use Rattle.runner.specs.PrivateRows.{full}
+use Rattle.runner.proofs.load.open_row.Given as goal
+
+abbrev pub invariant-loop-n : goal.invariant-loop-n
+invariant-loop-n l = Filled (λ (L : ℕ). full (is_open (lane_in l.image L))) l.n l.opens
+
+abbrev pub decreases-loop-n : goal.decreases-loop-n
+decreases-loop-n l = 32 - l.n

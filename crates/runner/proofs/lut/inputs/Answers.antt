@@ -1,0 +1,17 @@
+use Rattle.std.proofs.Common.{ℕ, ◌-◌, arith, rules}
+use Rattle.lane.specs.Lut.{input_of}
+use Rattle.runner.proofs.LutRows.{Floats, floats_start, floats_more}
+use Rattle.runner.specs.Image.{lane_in}
+use Rattle.runner.proofs.lut.inputs.Goals as goal
+
+pub loop-n-init : goal.loop-n-init
+loop-n-init c = floats_start _ _ (search rules)
+
+pub word_at-requires : goal.word_at-requires
+word_at-requires c = (c.requires, (omega arith, omega arith))
+
+pub loop-n-preserved : goal.loop-n-preserved
+loop-n-preserved c = floats_more _ _ _ _ c.loop-n-test.true c.loop-n.invariant (rw (c.input_bits.ensures, c.word_at.ensures) at c.float_of.ensures)
+
+pub returns : goal.returns
+returns c = λ L l. c.loop-n.invariant.made L (omega arith)

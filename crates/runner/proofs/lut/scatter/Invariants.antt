@@ -1,0 +1,11 @@
+use Rattle.std.proofs.Common.{ℕ, ◌+◌, ◌-◌, [], ◌∷◌, get_or, sym, ◌∙◌, arith, rules}
+use Rattle.lane.specs.Words.{Lane}
+use Rattle.runner.proofs.Lanes.{Turned, turn_start, turned_length, turn_more, turn_end}
+use Rattle.runner.proofs.LutRows.{all_ones, put_all}
+use Rattle.runner.proofs.lut.scatter.Given as goal
+
+abbrev pub invariant-loop-n : goal.invariant-loop-n
+invariant-loop-n l = Turned (λ (L : ℕ) (own : Lane). (get_or l.words (32 + L) 0, get_or l.words L 0) ∷ []) l.initial.image l.n l.image
+
+abbrev pub decreases-loop-n : goal.decreases-loop-n
+decreases-loop-n l = 32 - l.n

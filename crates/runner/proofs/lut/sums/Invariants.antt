@@ -1,0 +1,11 @@
+use Rattle.std.proofs.Common.{ℕ, ◌-◌, get_or, arith, rules}
+use Rattle.lane.specs.Lut.{piece_of, sum_of}
+use Rattle.runner.proofs.LutRows.{Floats, floats_start, floats_more}
+use lib.Ieee.{nan}
+use Rattle.runner.proofs.lut.sums.Given as goal
+
+abbrev pub invariant-loop-n : goal.invariant-loop-n
+invariant-loop-n l = Floats (λ (L : ℕ). sum_of (piece_of (get_or l.k L 0)) (get_or l.b L nan)) l.n l.x
+
+abbrev pub decreases-loop-n : goal.decreases-loop-n
+decreases-loop-n l = 32 - l.n

@@ -1,0 +1,12 @@
+use Rattle.std.proofs.Common.{ℕ, ◌+◌, ◌-◌, ◌/◌, ◌%◌, ◌∙◌, arith, rules}
+use Rattle.lane.specs.Words.{pick, fixed_word}
+use Rattle.runner.proofs.Filled.{Spread, spread_start, rows_more, spread_end}
+use Rattle.runner.proofs.Operands.{fixed_place}
+use Rattle.runner.specs.PrivateRows.{fixed_register, fixed_rows}
+use Rattle.runner.proofs.rows.fixed_rows.Given as goal
+
+abbrev pub invariant-loop-n : goal.invariant-loop-n
+invariant-loop-n l = Spread (λ (k : ℕ). fixed_word (fixed_register (k / 32)) (k % 32)) 32 128 l.n l.rows
+
+abbrev pub decreases-loop-n : goal.decreases-loop-n
+decreases-loop-n l = 32 - l.n

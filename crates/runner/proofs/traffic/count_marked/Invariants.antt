@@ -1,0 +1,12 @@
+use Rattle.std.proofs.Common.{ℕ, ◌+◌, ◌-◌, ◌*◌, sym, ◌∙◌, arith, rules}
+use Rattle.lane.specs.Words.{flag_of}
+use Rattle.runner.proofs.Counts.{Counting, counting_start, counting_more, counting_end, room_kept}
+use Rattle.runner.proofs.Tallied.{told, column_few, each_column}
+use Rattle.runner.specs.PrivateRows.{marked}
+use Rattle.runner.proofs.traffic.count_marked.Given as goal
+
+abbrev pub invariant-loop-j : goal.invariant-loop-j
+invariant-loop-j l = Counting (λ (L : ℕ). l.each * flag_of (marked l.t (l.at + L))) l.initial.stores l.j l.stores
+
+abbrev pub decreases-loop-j : goal.decreases-loop-j
+decreases-loop-j l = 8 - l.j

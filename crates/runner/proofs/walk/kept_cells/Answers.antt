@@ -1,0 +1,13 @@
+use Rattle.lane.specs.Words.{build}
+use Rattle.runner.proofs.Walks.{kept_store, kept_none}
+use Rattle.std.proofs.Common.{rules}
+use Rattle.runner.proofs.walk.kept_cells.Goals as goal
+
+pub returns-then-op-eq16 : goal.returns-then-op-eq16
+returns-then-op-eq16 c =
+    let a = c.args in
+    kept_store a.op a.a a.image.now a.dst.now _ _ c.if-op-eq16.true c.odd_row-odds.ensures c.cells.ensures
+
+pub returns : goal.returns
+unfolding build
+returns c = kept_none _ _ _ _ c.if-op-eq16.false

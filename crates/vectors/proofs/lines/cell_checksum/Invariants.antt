@@ -1,0 +1,7 @@
+use Rattle.vectors.proofs.lines.cell_checksum.Given as goal
+
+abbrev pub invariant-loop-i : goal.invariant-loop-i
+invariant-loop-i l = l.i ≤ length l.cells
+
+abbrev pub decreases-loop-i : goal.decreases-loop-i
+decreases-loop-i l = length l.cells - l.i

@@ -1,0 +1,7 @@
+use Rattle.vectors.proofs.made.make_list.Given as goal
+
+abbrev pub invariant-loop-i : goal.invariant-loop-i
+invariant-loop-i l = l.given ≤ 98400
+
+abbrev pub decreases-loop-i : goal.decreases-loop-i
+decreases-loop-i l = l.given - l.i
