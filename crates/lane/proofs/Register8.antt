@@ -40,10 +40,10 @@ unfolding pick
 not_within_half = refl
 
 -- The library has the same value, for every word below infinity's.
-of_fields : (x t : ℕ) → x < 255 → HasValue (of_fields binary32 false x t) false (pick (eqb x 0) t (2 ^ 23 + t) * 2 ^ (x - 1)) (2 ^ 149)
+of_fields_lem : (x t : ℕ) → x < 255 → HasValue (of_fields binary32 false x t) false (pick (eqb x 0) t (2 ^ 23 + t) * 2 ^ (x - 1)) (2 ^ 149)
 unfolding of_fields pick
-of_fields zero t h = odd_sign 24 false t 0 149
-of_fields (suc x) t h =
+of_fields_lem zero t h = odd_sign 24 false t 0 149
+of_fields_lem (suc x) t h =
     simp (ne_eqb (suc x) 255 (λ e. omega arith), ne_eqb (suc x) 0 (λ e. omega arith), less x) (odd_sign 24 false (2 ^ 23 + t) x 149)
   where
     less : (x : ℕ) → suc x - 1 ≡ x
@@ -51,7 +51,7 @@ of_fields (suc x) t h =
 
 pub value_is : (w : ℕ) → w < 0x7F800000 → HasValue (of_bits binary32 w) false (value w) (2 ^ 149)
 unfolding of_bits
-value_is w h = rw (lt-leb (2 ^ 31) w (omega arith)) (rw (field w h) (of_fields (exponent w) (w % 2 ^ 23) (omega arith)))
+value_is w h = rw (lt-leb (2 ^ 31) w (omega arith)) (rw (field w h) (of_fields_lem (exponent w) (w % 2 ^ 23) (omega arith)))
   where
     field : (w : ℕ) → w < 0x7F800000 → w % 2 ^ 31 / 2 ^ 23 ≡ exponent w
     field w h = omega arith

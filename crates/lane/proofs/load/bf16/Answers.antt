@@ -63,4 +63,4 @@ unpacked x r h k e =
     (together (x / 2 ^ 15) (x / 256 % 128) (x % 256) (omega arith) (omega arith))
 
 pub returns : goal.returns
-returns c = unpacked _ _ c.ranges.cell.fits c.wrapping_sub_u32-extended.type_inv c.wrapping_sub_u32-extended.ensures
+returns c = unpacked _ _ c.ranges.cell.fits c.wrapping_sub_u32-extended.type_inv c.wrapping_sub_u32-extended.ensures.value

@@ -29,7 +29,7 @@ byte_is x r z h k e q =
     q ∙ ap answer same ∙ eqb-true (answer (extended x)) (byte_word x) (below_all 256 agrees x all_bytes h)
 
 pub returns-then-word : goal.returns-then-word
-returns-then-word c = byte_is _ _ 0 c.ranges.byte.fits c.wrapping_sub_u32-extended.type_inv c.wrapping_sub_u32-extended.ensures (if_eq _ _ _ _ _ c.if-word.true refl)
+returns-then-word c = byte_is _ _ 0 c.ranges.byte.fits c.wrapping_sub_u32-extended.type_inv c.wrapping_sub_u32-extended.ensures.value (if_eq _ _ _ _ _ c.if-word.true refl)
 
 pub returns-else-word : goal.returns-else-word
-returns-else-word c = byte_is _ _ _ c.ranges.byte.fits c.wrapping_sub_u32-extended.type_inv c.wrapping_sub_u32-extended.ensures (if_ne _ _ _ _ _ c.if-word.false refl)
+returns-else-word c = byte_is _ _ _ c.ranges.byte.fits c.wrapping_sub_u32-extended.type_inv c.wrapping_sub_u32-extended.ensures.value (if_ne _ _ _ _ _ c.if-word.false refl)

@@ -7,7 +7,7 @@ use Rattle.lane.proofs.step.load_cell.Goals as goal
 
 pub returns-then-loads : goal.returns-then-loads
 unfolding load_with
-returns-then-loads c = let a = c.args in rw (has_one (get_or a.t1 12 0), ← c.loaded-word.ensures) (choose_true _ _ _ _ _ (rw c.loads.ensures at c.if-loads.true) (then_made ((a.vd, c.loaded-word.result) ∷ []) (pick (captures a.vd (get_or a.t1 12 0)) ((a.vd + 4, a.at) ∷ []) []) a.t1 c.put.result c.capture.result c.put.ensures c.capture.ensures))
+returns-then-loads c = let a = c.args in rw (has_one (get_or a.own 12 0), ← c.loaded-word.ensures) (choose_true _ _ _ _ _ (rw c.loads.ensures at c.if-loads.true) (then_made ((a.vd, c.loaded-word.result) ∷ []) (pick (captures a.vd (get_or a.own 12 0)) ((a.vd + 4, a.at) ∷ []) []) a.own c.put.result c.capture.result c.put.ensures c.capture.ensures))
 
 pub returns-else-loads : goal.returns-else-loads
 unfolding load_with
