@@ -21,4 +21,4 @@ pub loop-n-preserved : goal.loop-n-preserved
 loop-n-preserved c = let h = c.loop-n.invariant.1 in (omega arith, (union_more _ 12 _ _ _ h.0 c.word_at-config.ensures, (union_more _ 13 _ _ _ h.1.0 c.word_at-flag.ensures, (union_more _ 14 _ _ _ h.1.1.0 c.word_at-uses.ensures, union_more _ 23 _ _ _ h.1.1.1 c.word_at-misc.ensures))))
 
 pub returns : goal.returns
-returns c = c.well-formed-2.ensures ∙ union_good _ _ _ _ _ _ (omega arith) c.loop-n.invariant.1.0 c.loop-n.invariant.1.1.0 c.loop-n.invariant.1.1.1.0 c.loop-n.invariant.1.1.1.1
+returns c = c.well_formed-2.ensures ∙ union_good _ _ _ _ _ _ (omega arith) c.loop-n.invariant.1.0 c.loop-n.invariant.1.1.0 c.loop-n.invariant.1.1.1.0 c.loop-n.invariant.1.1.1.1

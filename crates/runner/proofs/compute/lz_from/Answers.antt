@@ -7,4 +7,4 @@ use Rattle.runner.proofs.compute.lz_from.Goals as goal
 
 pub returns : goal.returns
 unfolding lz_from
-returns c = let a = c.args in c.wrapping_add_u32.ensures ∙ ap (λ (k : ℕ). (a.count + k) % 2 ^ 32) (c.keep.ensures ∙ ap (λ (k : ℕ). pick (eqb k 0) 1 0) (ap (λ (k : ℕ). bit_and a.c k) c.lz_limit.ensures ∙ limit_is a.m a.c c.ranges.c.fits))
+returns c = let a = c.args in c.wrapping_add_u32.ensures.value ∙ ap (λ (k : ℕ). (a.count + k) % 2 ^ 32) (c.keep.ensures ∙ ap (λ (k : ℕ). pick (eqb k 0) 1 0) (ap (λ (k : ℕ). bit_and a.c k) c.lz_limit.ensures ∙ limit_is a.m a.c c.ranges.c.fits))

@@ -5,6 +5,7 @@ use Rattle.runner.proofs.Steps.{flagged_left, Reached, reached_start, reached_mo
 use Rattle.runner.proofs.Tallied.{enabled_marks, room_owed}
 use Rattle.runner.specs.PrivateSteps.{enabled_in}
 use Rattle.runner.proofs.run.step_all.Goals as goal
+use Rattle.runner.proofs.run.step_all.Goals.{then-changes_flags, else-changes_flags}
 
 pub enabled_row-requires : goal.enabled_row-requires
 enabled_row-requires c = (c.requires.0, search rules)
@@ -37,10 +38,10 @@ loop-k-preserved c =
     let i = c.insn_at-i.ensures in
     let flags = c.changes_flags.ensures in (
       omega arith,
-      ⊎_elim
-          (λ w. reached_same _ _ _ _ _ _ _ _ _ _ _ _ _ _ _ _ _ _ _ _ w.9 w.10 w.11 w.12 w.13 w.14 w.15 (reached_more _ _ _ _ _ _ _ _ _ _ _ _ _ _ _ _ _ _ _ _ inv i (flagged_left _ _ _ _ _ _ _ _ _ _ _ (sym flags ∙ w.0.taken) inv.dst_long (ap length inv.ties_is ∙ length_build 8 _) w.5.ensures)))
-          (λ w. reached_same _ _ _ _ _ _ _ _ _ _ _ _ _ _ _ _ _ _ _ _ w.15 w.16 w.17 w.18 w.19 w.20 w.21 (reached_more _ _ _ _ _ _ _ _ _ _ _ _ _ _ _ _ _ _ _ _ inv i w.8.ensures))
-          c.if-changes_flags.branch,
+      elim c.if-changes_flags.branch [
+        then-changes_flags w ↦ reached_same _ _ _ _ _ _ _ _ _ _ _ _ _ _ _ _ _ _ _ _ w.image-is w.dst-is w.go-is w.ties-is w.stores-is w.owed-is w.at-is (reached_more _ _ _ _ _ _ _ _ _ _ _ _ _ _ _ _ _ _ _ _ inv i (flagged_left _ _ _ _ _ _ _ _ _ _ _ (sym flags ∙ w.if-changes_flags.true) inv.dst_long (ap length inv.ties_is ∙ length_build 8 _) w.step_flagged.ensures))
+        | else-changes_flags w ↦ reached_same _ _ _ _ _ _ _ _ _ _ _ _ _ _ _ _ _ _ _ _ w.image-is w.dst-is w.go-is w.ties-is w.stores-is w.owed-is w.at-is (reached_more _ _ _ _ _ _ _ _ _ _ _ _ _ _ _ _ _ _ _ _ inv i w.step_lanes-next.ensures)
+      ],
     )
 
 pub slice_bounds-count_enabled-end : goal.slice_bounds-count_enabled-end

@@ -9,8 +9,8 @@ overflow_add-result c = let a = c.args in record { fits = omega (arith, c.regist
 pub offset_bounds-image-at : goal.offset_bounds-image-at
 offset_bounds-image-at c = let a = c.args in record { fits = omega (arith, c.register_count-count.ensures, c.register_start-at.ensures, part_small (length a.image.now) a.r) }
 
-pub slice-bounds-result-end : goal.slice-bounds-result-end
-slice-bounds-result-end c = let a = c.args in omega (arith, c.register_count-count.ensures, c.register_start-at.ensures, part_within (length a.image.now) a.r)
+pub slice_bounds-result-end : goal.slice_bounds-result-end
+slice_bounds-result-end c = let a = c.args in omega (arith, c.register_count-count.ensures, c.register_start-at.ensures, part_within (length a.image.now) a.r)
 
 pub returns : goal.returns
 unfolding view_pointer
