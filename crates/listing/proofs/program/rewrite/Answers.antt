@@ -17,7 +17,7 @@ written-requires c = held_accepted c.args.text.now c.read_held-reading.result c.
 
 pub returns-then-reading-eq0 : goal.returns-then-reading-eq0
 returns-then-reading-eq0 c = let r = c.read_held-reading in
-    rw (rewritten_read c.args.text.now r.result r.ensures.told (take r.result.length r.new.1.0) c.if-reading-eq0.true (held_list c.args.text.now r.result r.ensures.told c.if-reading-eq0.true _ _ r.ensures.put)) at c.written.ensures
+    rw (rewritten_read c.args.text.now r.result r.ensures.told (take r.result.length r.new.list) c.if-reading-eq0.true (held_list c.args.text.now r.result r.ensures.told c.if-reading-eq0.true _ _ r.ensures.put)) at c.written.ensures
 
 pub returns-else-reading-eq0 : goal.returns-else-reading-eq0
 returns-else-reading-eq0 c = rw (rewritten_refused c.args.text.now c.read_held-reading.result c.read_held-reading.ensures.told c.if-reading-eq0.false) at c.refusal_reported.ensures

@@ -20,14 +20,14 @@ overflow_add-first c = omega (arith, c.loop-i.invariant.up_to, c.requires.1, c.r
 pub loop-i-preserved : goal.loop-i-preserved
 loop-i-preserved c = checking_more _ _ _ _ _ _ _ c.loop-i.invariant _ c.read_form-c.result c.loop-i-test.true c.read_form-c.ensures c.if-c.true c.first_refused-found.result c.first_refused-found.ensures
 
-pub overflow-cast-t22 : goal.overflow-cast-t22
-overflow-cast-t22 c = omega (arith, c.read_form-c.ensures.few, c.loop-i.invariant.up_to, c.requires.1, c.requires.2)
+pub overflow_cast-result : goal.overflow_cast-result
+overflow_cast-result c = omega (arith, c.read_form-c.ensures.few, c.loop-i.invariant.up_to, c.requires.1, c.requires.2)
 
 pub returns-else-c : goal.returns-else-c
 returns-else-c c = checking_stop _ _ _ _ _ _ _ c.loop-i.invariant _ c.read_form-c.result c.loop-i-test.true c.read_form-c.ensures c.if-c.false
 
-pub overflow-add-t23 : goal.overflow-add-t23
-overflow-add-t23 c = omega (arith, c.loop-i.invariant.up_to, c.requires.1, c.requires.2)
+pub overflow_add-result : goal.overflow_add-result
+overflow_add-result c = omega (arith, c.loop-i.invariant.up_to, c.requires.1, c.requires.2)
 
 pub returns : goal.returns
 returns c = checking_end _ _ _ _ _ _ _ c.loop-i.invariant _ c.loop-i-test.false
