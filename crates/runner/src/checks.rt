@@ -175,7 +175,8 @@ fn given_answer(s: Settings, list: &[u32]) -> u32
 pub(crate) fn first_answer(s: Settings, image: &[u32], dst: &[u16], list: &[u32]) -> u32
     ensures { result ≡ Checks.first_answer s image.now dst.now list.now }
 {
-    if image.len() != 768 {
+    let is_cut = image.len() != 768;
+    if is_cut {
         return 1;
     }
     if dst.len() != 16384 {

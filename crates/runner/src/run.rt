@@ -211,7 +211,8 @@ pub fn run(s: Settings, image: &mut [u32], dst: &mut [u16], list: &[u32]) -> Out
 {
     let found = run_answer(s, image, dst, list);
     let answer = found.answer;
-    if answer == 0 {
+    let accepted = answer == 0;
+    if accepted {
         let ended = step_all(s, s.cursor, image, dst, list);
         let ties = ended.ties;
         let stores = ended.stores;

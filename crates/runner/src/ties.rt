@@ -64,7 +64,8 @@ pub(crate) fn count_ties(
     requires { (length image.now ≡ 768) × (Rows.Enabled go.now image.now × (Steps.Room 4 ties.old × ((c.now ≡ Rows.row (λ L. reg L (lane_in image.now L) i.vc)) × (d.now ≡ Rows.row (λ L. reg L (lane_in image.now L) i.vd))))) }
     ensures { ties.new ≡ Steps.counted ties.old (λ L. flag_of (Rules.tied i L (lane_in image.now L))) }
 {
-    if i.md != 0 {
+    let ties_count = i.md != 0;
+    if ties_count {
         if i.vd < 12 {
             count_columns(image, true, go, c, d, ties);
         } else {

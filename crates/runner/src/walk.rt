@@ -170,7 +170,8 @@ pub fn forward(
         };
     }
     let answer = next_answer(w.at, list, store.len());
-    if answer == 0 {
+    let accepted = answer == 0;
+    if accepted {
         let cursor = step_kept(s, w.at as usize, w.cursor, image, dst, list, store);
         return Walked {
             answer: 0,

@@ -4,10 +4,10 @@ use Rattle.std.proofs.Common.{sym, ◌∙◌, rules, le-ltb, lt-ltb, eq-eqb, ne_
 use Rattle.lane.proofs.swap.compared.Goals as goal
 
 pub returns-then-a-b : goal.returns-then-a-b
-returns-then-a-b c = let s = c.before.before.before in sym (pick_true _ _ _ (lt-ltb _ _ c.if-a-b.true)) ∙ by_keys s.args.c s.args.d _ _ s.ranges.c.fits s.ranges.d.fits c.key-a.ensures c.key-b.ensures
+returns-then-a-b c = sym (pick_true _ _ _ (lt-ltb _ _ c.if-a-b.true)) ∙ by_keys c.args.c c.args.d _ _ c.ranges.c.fits c.ranges.d.fits c.key-a.ensures c.key-b.ensures
 
 pub returns-then-a-b-2 : goal.returns-then-a-b-2
-returns-then-a-b-2 c = let s = c.before.before.before.before in sym (pick_false _ _ _ (le-ltb _ _ c.if-a-b.false) ∙ pick_true _ _ _ (eq-eqb _ _ c.if-a-b-2.true)) ∙ by_keys s.args.c s.args.d _ _ s.ranges.c.fits s.ranges.d.fits c.key-a.ensures c.key-b.ensures
+returns-then-a-b-2 c = sym (pick_false _ _ _ (le-ltb _ _ c.if-a-b.false) ∙ pick_true _ _ _ (eq-eqb _ _ c.if-a-b-2.true)) ∙ by_keys c.args.c c.args.d _ _ c.ranges.c.fits c.ranges.d.fits c.key-a.ensures c.key-b.ensures
 
 pub returns-else-a-b-2 : goal.returns-else-a-b-2
-returns-else-a-b-2 c = let s = c.before.before.before.before in sym (pick_false _ _ _ (le-ltb _ _ c.if-a-b.false) ∙ pick_false _ _ _ (ne_eqb _ _ c.if-a-b-2.false)) ∙ by_keys s.args.c s.args.d _ _ s.ranges.c.fits s.ranges.d.fits c.key-a.ensures c.key-b.ensures
+returns-else-a-b-2 c = sym (pick_false _ _ _ (le-ltb _ _ c.if-a-b.false) ∙ pick_false _ _ _ (ne_eqb _ _ c.if-a-b-2.false)) ∙ by_keys c.args.c c.args.d _ _ c.ranges.c.fits c.ranges.d.fits c.key-a.ensures c.key-b.ensures

@@ -13,24 +13,24 @@ pub step_kept-cursor-requires : goal.step_kept-cursor-requires
 step_kept-cursor-requires c =
     let a = c.args in
     let x = standing a.w a.image.now a.dst.now a.store.now in
-    let g = forward_good a.s a.list.now x (sym (next_given a.s a.list.now x _ c.lent_answer-lent.ensures _ c.if-lent-ne0.false c.next_answer-answer.ensures) ∙ c.if-answer-eq0.true) in
+    let g = forward_good a.s a.list.now x (sym (next_given a.s a.list.now x _ c.lent_answer-lent.ensures _ c.if-lent-ne0.false c.next_answer-answer.ensures) ∙ c.if-accepted.true) in
     (g.passed.image_long, (g.passed.dst_long, (omega (arith, g.next), (omega (arith, g.next, g.passed.list_given.few), g.room))))
 
 pub overflow_add-result : goal.overflow_add-result
 overflow_add-result c =
     let a = c.args in
     let x = standing a.w a.image.now a.dst.now a.store.now in
-    let g = forward_good a.s a.list.now x (sym (next_given a.s a.list.now x _ c.lent_answer-lent.ensures _ c.if-lent-ne0.false c.next_answer-answer.ensures) ∙ c.if-answer-eq0.true) in omega (arith, g.next, g.passed.list_given.few)
+    let g = forward_good a.s a.list.now x (sym (next_given a.s a.list.now x _ c.lent_answer-lent.ensures _ c.if-lent-ne0.false c.next_answer-answer.ensures) ∙ c.if-accepted.true) in omega (arith, g.next, g.passed.list_given.few)
 
-pub returns-then-answer-eq0 : goal.returns-then-answer-eq0
+pub returns-then-accepted : goal.returns-then-accepted
 unfolding moved
-returns-then-answer-eq0 c =
+returns-then-accepted c =
     let a = c.args in
     let x = standing a.w a.image.now a.dst.now a.store.now in
-    called_done forward a.s a.list.now x _ (next_given a.s a.list.now x _ c.lent_answer-lent.ensures _ c.if-lent-ne0.false c.next_answer-answer.ensures) _ c.if-answer-eq0.true c.step_kept-cursor.ensures
+    called_done forward a.s a.list.now x _ (next_given a.s a.list.now x _ c.lent_answer-lent.ensures _ c.if-lent-ne0.false c.next_answer-answer.ensures) _ c.if-accepted.true c.step_kept-cursor.ensures
 
 pub returns : goal.returns
 returns c =
     let a = c.args in
     let x = standing a.w a.image.now a.dst.now a.store.now in
-    called_refused forward a.s a.list.now x _ (next_given a.s a.list.now x _ c.lent_answer-lent.ensures _ c.if-lent-ne0.false c.next_answer-answer.ensures) c.if-answer-eq0.false
+    called_refused forward a.s a.list.now x _ (next_given a.s a.list.now x _ c.lent_answer-lent.ensures _ c.if-lent-ne0.false c.next_answer-answer.ensures) c.if-accepted.false
