@@ -14,7 +14,7 @@ use Rattle.lane.specs.Refusals.{instruction_answer, settings_good}
 use Rattle.lane.proofs.Accepted.{Narrow, fields_fit, settings_in_range}
 use Rattle.runner.specs.Checks.{insn_at, count_of, list_answer}
 use Rattle.runner.proofs.Scan.{insn_words}
-use Rattle.runner.proofs.Accepted.{Each, listed}
+use Rattle.runner.proofs.Accepted.{listed}
 use Rattle.listing.specs.Forms.{Item, lit, dec, hex, name, Form, literal, takes}
 use Rattle.listing.specs.Listing.{Format, old, two, formats, header_with, head, line, lines, header_of}
 use Rattle.listing.proofs.Trips.{Fit, Fits}

@@ -1,6 +1,6 @@
 -- What a text holds that a reading accepts. Assumes nothing.
 use mathlib.Core.Path.{◌≡◌, refl, sym, ap, ◌∙◌}
-use Prim.Native.Nat.{ℕ, zero, suc, ◌+◌, ◌*◌, ◌<◌, ◌≤◌}
+use Prim.Native.Nat.{ℕ, zero, suc, ◌+◌, ◌<◌, ◌≤◌}
 use native.Mathlib.Omega.{arith}
 use mathlib.Core.Bool.{Bool, true, false}
 use mathlib.Core.List.{List, [], ◌∷◌, ◌++◌, append-nil}
@@ -16,7 +16,7 @@ use Rattle.listing.specs.Listing.{Format, formats, written, format_of, head, fir
 use Rattle.listing.proofs.FormatTable.{lines_numbers, text_sound}
 use Rattle.listing.proofs.Readers.{read_headed, read_on, read_list_done}
 use Rattle.listing.proofs.Trips.{scan_whole, scan_render}
-use Rattle.listing.specs.Report.{Printed, report}
+use Rattle.listing.specs.Report.{report}
 use Rattle.listing.specs.Program.{held_words, held_bytes, read_held, report_of, output, refusal_report, rewriting_of, rewritten}
 use Rattle.listing.proofs.Programs.{held_short}
 use Rattle.listing.proofs.Writers.{listing_length, lines_few, listing_short}

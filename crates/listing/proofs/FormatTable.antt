@@ -1,10 +1,10 @@
 -- The forms as the code has them, and what holds of every format of the table. Assumes nothing.
 use mathlib.Core.Path.{◌≡◌, refl, sym, ◌∙◌}
-use Prim.Native.Nat.{ℕ, zero, suc, ◌+◌, ◌*◌, ◌<◌, ◌≤◌}
+use Prim.Native.Nat.{ℕ, zero, suc, ◌*◌, ◌≤◌}
 use native.Mathlib.Omega.{arith}
 use mathlib.Core.Bool.{Bool, true, false}
-use mathlib.Core.List.{List, [], ◌∷◌}
-use lib.ListN.{length, get_or}
+use mathlib.Core.List.{List, []}
+use lib.ListN.{get_or}
 use lib.Dec.{eqb, ltb}
 use borrow.Author.Tests.{eq-eqb, ne_eqb, ltb-true}
 use Rattle.lane.specs.Words.{pick}
@@ -13,7 +13,7 @@ use Rattle.runner.specs.Checks.{list_limit}
 use Rattle.listing.specs.Forms.{faulty, follow, ends, lines_in, scan, scan_item, scan_byte, takes, spell, bytes, literal, begins}
 use Rattle.listing.specs.PrivatePlaces.{item_of, form_of, numbers, widest, widest_item}
 use Rattle.listing.specs.PrivateReader.{format_by, form_by, FormatOf, Letters}
-use Rattle.listing.specs.Listing.{Format, old, two, formats, format_among, format_of, header_with, head, first_line, line, lines}
+use Rattle.listing.specs.Listing.{Format, old, two, format_among, format_of, header_with, head, first_line, line, lines}
 use Rattle.listing.proofs.Names.{every, every_at}
 use Rattle.listing.proofs.Trips.{numbers_append}
 

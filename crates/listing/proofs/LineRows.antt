@@ -2,7 +2,6 @@
 use mathlib.Core.Path.{◌≡◌, refl, sym, ap, ◌∙◌}
 use Prim.Native.Nat.{ℕ, zero, suc, ◌+◌, ◌-◌, ◌*◌, ◌%◌, ◌<◌, ◌≤◌}
 use native.Mathlib.Nat.{not-suc-le-zero, add_assoc, add-zero}
-use native.Mathlib.Numerals.{add-one}
 use native.Mathlib.Decide.{dec_lt}
 use native.Mathlib.Omega.{arith}
 use mathlib.Core.Bool.{Bool, true, ◌&&◌}
@@ -12,10 +11,9 @@ use lib.Seq.{get_or-append-add, get_or-drop, get_or-take, length-take-le, drop-d
 use lib.Dec.{eqb, ltb, leb}
 use borrow.Author.Tests.{lt-ltb, le-ltb, le-leb, leb-true, eqb-true}
 use Rattle.lane.specs.declared.Insn.{Insn}
-use Rattle.lane.specs.Words.{pick}
 use Rattle.lane.specs.Refusals.{instruction_answer}
 use Rattle.lane.proofs.Cases.{pick_true, pick_false}
-use Rattle.listing.specs.Forms.{Item, lit, dec, hex, name, Form, LF, digit, numeric, number, name_of, names, bytes, spell, literal, Scan, taken, joined, ends, scan, scan_item, scan_number, render_item, takes}
+use Rattle.listing.specs.Forms.{Item, lit, dec, hex, name, Form, digit, numeric, number, name_of, names, bytes, spell, literal, taken, joined, ends, scan, scan_item, scan_number, render_item, takes}
 use Rattle.listing.specs.Listing.{line}
 use Rattle.listing.specs.PrivateLines.{spelled, words_of, line_length, RowsOf, Rows, Between, two_of, five_of, insn_before, LineAt, PlainAt}
 use Rattle.listing.proofs.Digits.{both, both_true}

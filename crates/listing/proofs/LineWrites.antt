@@ -1,6 +1,6 @@
 -- An instruction line written part by part. Assumes nothing.
 use mathlib.Core.Path.{◌≡◌, refl, sym, ap, ◌∙◌}
-use Prim.Native.Nat.{ℕ, zero, suc, ◌+◌, ◌-◌, ◌*◌, ◌/◌, ◌%◌, ◌<◌, ◌≤◌}
+use Prim.Native.Nat.{ℕ, ◌+◌, ◌-◌, ◌*◌, ◌/◌, ◌%◌, ◌<◌, ◌≤◌}
 use native.Mathlib.Nat.{add-zero}
 use native.Mathlib.Omega.{arith}
 use mathlib.Core.List.{List, [], ◌∷◌, ◌++◌, append_assoc}
@@ -13,7 +13,7 @@ use Rattle.listing.specs.Listing.{line}
 use Rattle.listing.specs.PrivatePlaces.{Grown}
 use Rattle.listing.specs.PrivateLines.{spelled, line_length, RowsOf, fields_of}
 use Rattle.listing.proofs.Digits.{length_digits}
-use Rattle.listing.proofs.LineRows.{length_spelled, length_line, line_width}
+use Rattle.listing.proofs.LineRows.{length_line}
 use Rattle.listing.proofs.Rooms.{grown_none, grown_store, grown_more}
 
 -- ---- digits

@@ -1,5 +1,5 @@
 -- What an accepted list, and an accepted run, were checked for, and that this is all: their answers are 0 exactly then. Assumes nothing.
-use Rattle.std.proofs.Common.{◌≡◌, ℕ, zero, suc, ◌+◌, ◌*◌, ◌/◌, ◌%◌, ◌<◌, ◌≤◌, Bool, true, false, eqb, leb, List, length, sym, refl, ap, ◌∙◌, add-zero, zero-add, arith, eq-eqb, ne_eqb, eqb-true, le-leb, leb-true}
+use Rattle.std.proofs.Common.{◌≡◌, ℕ, zero, suc, ◌+◌, ◌*◌, ◌/◌, ◌%◌, ◌<◌, ◌≤◌, Bool, true, false, eqb, leb, List, length, sym, refl, ap, ◌∙◌, add-zero, zero-add, arith, eq-eqb, eqb-true, le-leb, leb-true}
 use borrow.Author.Tests.{eqb-false}
 use Rattle.lane.specs.declared.Settings.{Settings}
 use Rattle.lane.specs.Words.{pick}

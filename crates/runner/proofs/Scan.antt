@@ -2,7 +2,6 @@
 use Rattle.std.proofs.Common.{◌≡◌, ℕ, zero, suc, ◌+◌, ◌-◌, ◌*◌, ◌/◌, ◌%◌, ◌<◌, ◌≤◌, Bool, true, false, eqb, List, [], ◌∷◌, ◌++◌, length, get_or, drop, sym, refl, ap, ◌∙◌, add-zero, arith, drop-cons, get_or-append-add, eq-eqb, ne_eqb, eqb-true}
 use lib.ListN.{get_or-append}
 use borrow.Author.Tests.{eqb-false}
-use Rattle.lane.specs.declared.Insn.{Insn}
 use Rattle.lane.specs.Words.{pick}
 use Rattle.lane.specs.Refusals.{instruction_answer}
 use Rattle.lane.proofs.Cases.{pick_true, pick_false}

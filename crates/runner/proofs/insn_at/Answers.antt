@@ -1,5 +1,5 @@
 use Rattle.runner.specs.Checks.{insn_at}
-use Rattle.std.proofs.Common.{refl, rules}
+use Rattle.std.proofs.Common.{refl}
 use Rattle.runner.proofs.insn_at.Goals as goal
 
 pub returns : goal.returns

@@ -1,4 +1,4 @@
-use Rattle.std.proofs.Common.{◌%◌, eqb, arith, rules}
+use Rattle.std.proofs.Common.{◌%◌, eqb, arith}
 use Rattle.lane.proofs.Cases.{has_one, pick_le}
 use Rattle.lane.specs.Compute.{exman_word}
 use Rattle.lane.proofs.compute.exman_word.Goals as goal

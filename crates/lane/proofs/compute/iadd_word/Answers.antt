@@ -1,4 +1,3 @@
-use Rattle.std.proofs.Common.{rules}
 use Rattle.lane.proofs.Cases.{if_eq, if_ne, if_odd, if_even}
 use Rattle.lane.specs.Compute.{iadd_word}
 use Rattle.lane.proofs.compute.iadd_word.Goals as goal

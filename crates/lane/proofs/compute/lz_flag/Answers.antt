@@ -1,4 +1,3 @@
-use Rattle.std.proofs.Common.{rules}
 use Rattle.lane.proofs.compute.lz_flag.Goals as goal
 
 pub returns : goal.returns

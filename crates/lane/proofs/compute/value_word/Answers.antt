@@ -1,4 +1,4 @@
-use Rattle.std.proofs.Common.{rules, ne_eqb}
+use Rattle.std.proofs.Common.{ne_eqb}
 use Rattle.lane.proofs.Cases.{has_one}
 use Rattle.lane.specs.Compute.{other, value_word}
 use Rattle.lane.specs.Words.{pick}

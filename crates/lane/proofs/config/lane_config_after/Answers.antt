@@ -1,4 +1,3 @@
-use Rattle.std.proofs.Common.{rules}
 use Rattle.lane.proofs.Cases.{if_odd, if_even}
 use Rattle.lane.specs.Config.{lane_config_after}
 use Rattle.lane.proofs.config.lane_config_after.Goals as goal

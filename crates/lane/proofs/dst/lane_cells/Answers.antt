@@ -1,4 +1,4 @@
-use Rattle.std.proofs.Common.{refl, rules}
+use Rattle.std.proofs.Common.{refl}
 use Rattle.lane.proofs.Cases.{if_eq, if_ne}
 use Rattle.lane.specs.Rule.{cells_of}
 use Rattle.lane.proofs.dst.lane_cells.Goals as goal

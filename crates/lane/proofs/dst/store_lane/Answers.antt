@@ -1,4 +1,4 @@
-use Rattle.std.proofs.Common.{refl, rules}
+use Rattle.std.proofs.Common.{refl}
 use Rattle.lane.proofs.Cases.{if_true, if_false}
 use Rattle.lane.specs.Store.{store}
 use Rattle.lane.proofs.dst.store_lane.Goals as goal

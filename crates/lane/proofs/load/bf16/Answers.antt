@@ -1,4 +1,4 @@
-use Rattle.std.proofs.Common.{◌≡◌, ℕ, ◌+◌, ◌*◌, ◌/◌, ◌%◌, ◌^◌, ◌<◌, ap, ◌∙◌, ap₂, mod-eq_of_lt, lt_of_not-le, arith, rules}
+use Rattle.std.proofs.Common.{◌≡◌, ℕ, ◌+◌, ◌*◌, ◌/◌, ◌%◌, ◌^◌, ◌<◌, ap, ◌∙◌, ap₂, mod-eq_of_lt, lt_of_not-le, arith}
 use native.Mathlib.Decide.{dec_le}
 use lib.Bits.{bit_and, bit_or, bit_xor, and_block, and_high, or_block, or_shifted, or_zero_r, xor_add_and}
 use Rattle.lane.specs.Load.{bf16}

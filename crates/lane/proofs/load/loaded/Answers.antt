@@ -1,4 +1,4 @@
-use Rattle.std.proofs.Common.{arith, rules, ne_eqb}
+use Rattle.std.proofs.Common.{ne_eqb}
 use Rattle.lane.specs.Load.{loaded}
 use Rattle.lane.specs.Words.{pick}
 use Rattle.lane.proofs.load.loaded.Goals as goal

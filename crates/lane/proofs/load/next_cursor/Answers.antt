@@ -1,4 +1,4 @@
-use Rattle.std.proofs.Common.{refl, arith, rules}
+use Rattle.std.proofs.Common.{refl, arith}
 use Rattle.lane.proofs.Cases.{if_true, if_false}
 use Rattle.lane.specs.Load.{next_cursor}
 use Rattle.lane.proofs.load.next_cursor.Goals as goal

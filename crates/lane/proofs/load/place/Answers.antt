@@ -1,4 +1,4 @@
-use Rattle.std.proofs.Common.{arith, rules}
+use Rattle.std.proofs.Common.{arith}
 use Rattle.lane.proofs.Cases.{byte_is, byte_small}
 use Rattle.lane.specs.Load.{place_of}
 use Rattle.lane.proofs.load.place.Goals as goal

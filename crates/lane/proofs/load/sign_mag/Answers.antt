@@ -1,4 +1,4 @@
-use Rattle.std.proofs.Common.{◌≡◌, ℕ, ◌+◌, ◌*◌, ◌/◌, ◌%◌, ◌^◌, ◌<◌, ◌≤◌, Bool, true, ◌&&◌, eqb, leb, refl, ap, mod-lt, arith, pow_pos, rules, eqb-true, leb-true}
+use Rattle.std.proofs.Common.{◌≡◌, ℕ, ◌+◌, ◌*◌, ◌/◌, ◌%◌, ◌^◌, ◌<◌, ◌≤◌, Bool, true, ◌&&◌, eqb, leb, refl, ap, mod-lt, arith, pow_pos, eqb-true, leb-true}
 use Rattle.lane.specs.Load.{sign_mag}
 use Rattle.lane.proofs.Tables.{and_left, and_right, all_below, below_all}
 use Rattle.lane.proofs.load.sign_mag.Goals as goal

@@ -1,4 +1,4 @@
-use Rattle.std.proofs.Common.{refl, arith, rules}
+use Rattle.std.proofs.Common.{refl, arith}
 use Rattle.lane.proofs.Cases.{if_eq, if_ne}
 use Rattle.lane.specs.Load.{twos_comp}
 use Rattle.lane.proofs.load.twos_comp.Goals as goal

@@ -1,4 +1,3 @@
-use Rattle.std.proofs.Common.{rules}
 use lib.Ieee.{to_bits}
 use Rattle.lane.proofs.Floats.{unlike_itself, like_itself}
 use Rattle.lane.proofs.lut.bits_of.Goals as goal

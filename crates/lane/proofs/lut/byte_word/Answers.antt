@@ -1,4 +1,4 @@
-use Rattle.std.proofs.Common.{◌≡◌, ℕ, ◌+◌, ◌-◌, ◌*◌, ◌%◌, ◌^◌, ◌<◌, Bool, true, eqb, refl, ap, ◌∙◌, arith, rules, eqb-true}
+use Rattle.std.proofs.Common.{◌≡◌, ℕ, ◌+◌, ◌-◌, ◌*◌, ◌%◌, ◌^◌, ◌<◌, Bool, true, eqb, refl, ap, ◌∙◌, arith, eqb-true}
 use lib.Bits.{bit_and, bit_xor}
 use Rattle.lane.specs.Words.{pick}
 use Rattle.lane.specs.Lut.{byte_word}

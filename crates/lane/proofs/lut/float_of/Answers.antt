@@ -1,4 +1,4 @@
-use Rattle.std.proofs.Common.{sym, ◌∙◌, rules, le-ltb, lt-ltb}
+use Rattle.std.proofs.Common.{sym, ◌∙◌, le-ltb, lt-ltb}
 use lib.Ieee.{of_bits, binary32}
 use lib.Ieee.Bits.{nan_bits_above, nan_bits_is}
 use Rattle.lane.proofs.Floats.{only_nan, zero_by_zero}

@@ -1,4 +1,3 @@
-use Rattle.std.proofs.Common.{rules}
 use Rattle.lane.proofs.lut.lut_word.Goals as goal
 
 pub returns : goal.returns

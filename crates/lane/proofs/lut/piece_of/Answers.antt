@@ -1,4 +1,3 @@
-use Rattle.std.proofs.Common.{rules}
 use Rattle.lane.proofs.lut.piece_of.Goals as goal
 
 pub returns : goal.returns

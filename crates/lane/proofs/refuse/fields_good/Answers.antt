@@ -1,4 +1,3 @@
-use Rattle.std.proofs.Common.{rules}
 use Rattle.lane.specs.Refusals.{fields_good, limits_of}
 use Rattle.lane.proofs.refuse.fields_good.Goals as goal
 

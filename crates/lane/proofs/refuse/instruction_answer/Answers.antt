@@ -1,4 +1,4 @@
-use Rattle.std.proofs.Common.{not, refl, ap, rules}
+use Rattle.std.proofs.Common.{not, refl, ap}
 use Rattle.lane.proofs.Cases.{if_true, if_false}
 use Rattle.lane.specs.Refusals.{instruction_answer, pass}
 use Rattle.lane.specs.Words.{pick}

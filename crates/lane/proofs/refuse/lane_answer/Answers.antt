@@ -1,4 +1,4 @@
-use Rattle.std.proofs.Common.{refl, rules}
+use Rattle.std.proofs.Common.{refl}
 use Rattle.lane.proofs.Cases.{if_true, if_false}
 use Rattle.lane.specs.Refusals.{lane_answer, pass}
 use Rattle.lane.proofs.refuse.lane_answer.Goals as goal

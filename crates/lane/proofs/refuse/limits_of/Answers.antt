@@ -1,4 +1,4 @@
-use Rattle.std.proofs.Common.{◌∙◌, rules}
+use Rattle.std.proofs.Common.{◌∙◌}
 use Rattle.lane.proofs.Fields.{no_row, less, least}
 use Rattle.lane.specs.Refusals.{limits_of}
 use Rattle.lane.proofs.refuse.limits_of.Goals as goal

@@ -1,4 +1,4 @@
-use Rattle.std.proofs.Common.{rules, le-ltb, lt-ltb}
+use Rattle.std.proofs.Common.{le-ltb, lt-ltb}
 use Rattle.lane.proofs.refuse.mod_allowed.Goals as goal
 
 pub returns-then-m-lt16 : goal.returns-then-m-lt16

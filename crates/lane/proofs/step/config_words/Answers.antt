@@ -1,4 +1,4 @@
-use Rattle.std.proofs.Common.{rules, le-ltb, lt-ltb}
+use Rattle.std.proofs.Common.{le-ltb, lt-ltb}
 use Rattle.lane.proofs.Stores.{choose_true, choose_false}
 use Rattle.lane.specs.Config.{config_store}
 use Rattle.lane.proofs.step.config_words.Goals as goal

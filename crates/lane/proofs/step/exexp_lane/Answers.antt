@@ -1,4 +1,3 @@
-use Rattle.std.proofs.Common.{rules}
 use Rattle.lane.specs.Compute.{exexp, exexp_with}
 use Rattle.lane.proofs.step.exexp_lane.Goals as goal
 

@@ -1,4 +1,3 @@
-use Rattle.std.proofs.Common.{rules}
 use Rattle.lane.specs.Compute.{iadd, iadd_with}
 use Rattle.lane.proofs.step.iadd_lane.Goals as goal
 

@@ -1,4 +1,4 @@
-use Rattle.std.proofs.Common.{[], ◌∷◌, ◌++◌, rules}
+use Rattle.std.proofs.Common.{[], ◌∷◌, ◌++◌}
 use Rattle.lane.proofs.Stores.{then_made}
 use Rattle.lane.specs.Swap.{below, index_of, index_swap}
 use Rattle.lane.specs.Words.{Stores}

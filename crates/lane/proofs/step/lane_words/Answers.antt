@@ -1,4 +1,4 @@
-use Rattle.std.proofs.Common.{rules, eq-eqb, ne_eqb}
+use Rattle.std.proofs.Common.{eq-eqb, ne_eqb}
 use Rattle.lane.proofs.Stores.{choose_true, choose_false}
 use Rattle.lane.specs.Rule.{stores_of}
 use Rattle.lane.proofs.step.lane_words.Goals as goal

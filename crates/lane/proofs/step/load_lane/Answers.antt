@@ -1,4 +1,3 @@
-use Rattle.std.proofs.Common.{rules}
 use Rattle.lane.specs.Load.{load}
 use Rattle.lane.proofs.step.load_lane.Goals as goal
 

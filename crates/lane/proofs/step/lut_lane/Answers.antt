@@ -1,4 +1,3 @@
-use Rattle.std.proofs.Common.{rules}
 use Rattle.lane.specs.Lut.{lut, lut_with}
 use Rattle.lane.proofs.step.lut_lane.Goals as goal
 

@@ -1,4 +1,3 @@
-use Rattle.std.proofs.Common.{rules}
 use Rattle.lane.specs.Compute.{lz, lz_with}
 use Rattle.lane.proofs.step.lz_lane.Goals as goal
 

@@ -1,4 +1,3 @@
-use Rattle.std.proofs.Common.{rules}
 use Rattle.lane.proofs.Stores.{then_made}
 use Rattle.lane.specs.Swap.{below, plain_swap}
 use Rattle.lane.proofs.step.plain_swap.Goals as goal

@@ -1,4 +1,4 @@
-use Rattle.std.proofs.Common.{sym, ◌∙◌, arith, rules}
+use Rattle.std.proofs.Common.{sym, ◌∙◌, arith}
 use Rattle.lane.proofs.Answers.{accepted, refused, accepted_lane}
 use Rattle.lane.specs.Refusals.{lane_step}
 use Rattle.lane.specs.Words.{lane_of}

@@ -1,4 +1,3 @@
-use Rattle.std.proofs.Common.{rules}
 use Rattle.lane.specs.Swap.{swap}
 use Rattle.lane.proofs.step.swap_lane.Goals as goal
 

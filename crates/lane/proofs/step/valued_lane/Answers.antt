@@ -1,4 +1,3 @@
-use Rattle.std.proofs.Common.{rules}
 use Rattle.lane.specs.Compute.{valued, valued_with}
 use Rattle.lane.proofs.step.valued_lane.Goals as goal
 

@@ -1,4 +1,4 @@
-use Rattle.std.proofs.Common.{refl, rules}
+use Rattle.std.proofs.Common.{refl}
 use Rattle.lane.specs.Store.{packed_bf16}
 use Rattle.lane.proofs.store.packed_bf16.Goals as goal
 

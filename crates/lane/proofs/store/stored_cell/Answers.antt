@@ -1,4 +1,4 @@
-use Rattle.std.proofs.Common.{rules, ne_eqb}
+use Rattle.std.proofs.Common.{ne_eqb}
 use Rattle.lane.specs.Store.{stored_cell}
 use Rattle.lane.specs.Words.{pick}
 use Rattle.lane.proofs.store.stored_cell.Goals as goal

@@ -1,6 +1,6 @@
 use Rattle.lane.proofs.Cases.{pick_true, pick_false}
 use Rattle.lane.proofs.Ranks.{by_keys}
-use Rattle.std.proofs.Common.{sym, ◌∙◌, rules, le-ltb, lt-ltb, eq-eqb, ne_eqb}
+use Rattle.std.proofs.Common.{sym, ◌∙◌, le-ltb, lt-ltb, eq-eqb, ne_eqb}
 use Rattle.lane.proofs.swap.compared.Goals as goal
 
 pub returns-then-a-b : goal.returns-then-a-b

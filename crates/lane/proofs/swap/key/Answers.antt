@@ -1,5 +1,4 @@
 use Rattle.lane.proofs.Ranks.{key_is}
-use Rattle.std.proofs.Common.{rules}
 use Rattle.lane.proofs.swap.key.Goals as goal
 
 pub returns : goal.returns

@@ -1,4 +1,4 @@
-use Rattle.std.proofs.Common.{refl, ◌∙◌, rules}
+use Rattle.std.proofs.Common.{refl, ◌∙◌}
 use Rattle.lane.proofs.Masks.{mask_is}
 use Rattle.lane.specs.Swap.{masks}
 use Rattle.lane.proofs.swap.mask_of.Goals as goal

@@ -1,4 +1,3 @@
-use Rattle.std.proofs.Common.{rules}
 use Rattle.lane.proofs.Ranks.{swaps_is}
 use Rattle.lane.proofs.swap.swaps.Goals as goal
 

@@ -1,4 +1,4 @@
-use Rattle.std.proofs.Common.{rules, le-ltb, lt-ltb}
+use Rattle.std.proofs.Common.{le-ltb, lt-ltb}
 use Rattle.lane.specs.Words.{pick, reg}
 use Rattle.lane.proofs.words.register.Goals as goal
 

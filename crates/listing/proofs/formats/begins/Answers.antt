@@ -1,9 +1,5 @@
-use Prim.Native.Nat.{◌-◌, ◌≤◌}
-use borrow.Author.Rules.{rules}
-use lib.ListN.{length, drop}
-use mathlib.Core.Path.{◌≡◌, refl, sym, ◌∙◌}
+use mathlib.Core.Path.{refl, sym, ◌∙◌}
 use native.Mathlib.Omega.{arith}
-use Rattle.listing.specs.Forms.{begins}
 use Rattle.listing.proofs.Scans.{begins_from, begins_not, begins_all}
 use Rattle.listing.proofs.formats.begins.Goals as goal
 

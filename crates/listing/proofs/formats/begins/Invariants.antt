@@ -1,10 +1,7 @@
 use Prim.Native.Nat.{◌-◌, ◌≤◌}
-use borrow.Author.Rules.{rules}
 use lib.ListN.{length, drop}
-use mathlib.Core.Path.{◌≡◌, refl, sym, ◌∙◌}
-use native.Mathlib.Omega.{arith}
+use mathlib.Core.Path.{◌≡◌}
 use Rattle.listing.specs.Forms.{begins}
-use Rattle.listing.proofs.Scans.{begins_from, begins_not, begins_all}
 use Rattle.listing.proofs.formats.begins.Given as goal
 
 abbrev pub invariant-loop-i : goal.invariant-loop-i

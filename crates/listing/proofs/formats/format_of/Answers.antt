@@ -1,7 +1,6 @@
 use mathlib.Core.Path.{sym, ◌∙◌}
 use Rattle.listing.specs.Forms.{spell, bytes}
 use Rattle.listing.proofs.FormatTable.{mark_letters, marked, unmarked}
-use borrow.Author.Rules.{rules}
 use Rattle.listing.proofs.formats.format_of.Goals as goal
 
 pub begins-requires : goal.begins-requires

@@ -1,7 +1,6 @@
 use mathlib.Core.Path.{sym, ap}
 use Rattle.listing.specs.Listing.{Format}
 use Rattle.listing.proofs.FormatTable.{by_two, by_old}
-use borrow.Author.Rules.{rules}
 use Rattle.listing.proofs.formats.limit_of.Goals as goal
 
 pub returns-then-format-eq-TWO : goal.returns-then-format-eq-TWO

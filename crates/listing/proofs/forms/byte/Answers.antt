@@ -1,4 +1,3 @@
-use borrow.Author.Rules.{rules}
 use mathlib.Core.Path.{sym, ◌∙◌}
 use Rattle.listing.proofs.Scans.{gets_nothing, gets_none, byte_missing, byte_found}
 use Rattle.listing.proofs.forms.byte.Goals as goal

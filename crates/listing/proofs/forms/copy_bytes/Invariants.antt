@@ -1,10 +1,7 @@
 use Prim.Native.Nat.{◌≤◌, ◌-◌}
-use borrow.Author.Rules.{rules}
-use lib.ListN.{length, take, drop}
+use lib.ListN.{take, drop}
 use mathlib.Core.List.{◌++◌}
-use mathlib.Core.Path.{ap, ◌∙◌, ◌≡◌}
-use native.Mathlib.Omega.{arith}
-use Rattle.listing.proofs.Rooms.{copy_start, copy_more, copy_length}
+use mathlib.Core.Path.{◌≡◌}
 use Rattle.listing.proofs.forms.copy_bytes.Given as goal
 
 abbrev pub invariant-loop-i : goal.invariant-loop-i

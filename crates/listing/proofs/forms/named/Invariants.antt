@@ -1,12 +1,7 @@
 use Prim.Native.Nat.{◌<◌, ◌≤◌, ◌+◌, ◌-◌}
-use borrow.Author.Rules.{rules}
 use lib.ListN.{length, drop}
-use mathlib.Core.Path.{refl, sym, ◌∙◌, ◌≡◌}
-use native.Mathlib.Nat.{add-zero}
-use native.Mathlib.Omega.{arith}
-use Rattle.listing.proofs.Names.{cell_at, letter_at, length_at, length_name}
-use Rattle.listing.proofs.Scans.{begins_more, begins_stops, begins_ends}
-use Rattle.listing.specs.Forms.{spell, bytes, name_of, begins, text}
+use mathlib.Core.Path.{◌≡◌}
+use Rattle.listing.specs.Forms.{name_of, begins}
 use Rattle.listing.proofs.forms.named.Given as goal
 
 abbrev pub invariant-loop-i : goal.invariant-loop-i

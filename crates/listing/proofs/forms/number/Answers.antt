@@ -1,12 +1,8 @@
-use Prim.Native.Nat.{◌≤◌, ◌-◌}
-use borrow.Author.Rules.{rules}
-use lib.ListN.{drop}
-use mathlib.Core.Bool.{true}
-use mathlib.Core.Path.{refl, ap, ◌∙◌, ◌≡◌}
+use mathlib.Core.Path.{refl, ap, ◌∙◌}
 use native.Mathlib.Omega.{arith}
 use Rattle.listing.proofs.Digits.{number_small}
 use Rattle.listing.proofs.Scans.{gets_nothing, gets_one, value_fits, value_fits_times, number_more, number_stops, number_ends}
-use Rattle.listing.specs.Forms.{digit, numeric, number, text}
+use Rattle.listing.specs.Forms.{digit, numeric, number}
 use Rattle.listing.proofs.forms.number.Goals as goal
 
 pub loop-i-init : goal.loop-i-init

@@ -1,10 +1,9 @@
-use Prim.Native.Nat.{ℕ, ◌≤◌}
-use borrow.Author.Rules.{rules}
+use Prim.Native.Nat.{ℕ}
 use lib.ListN.{drop}
-use mathlib.Core.Path.{refl, sym, ap, ◌∙◌, ◌≡◌}
+use mathlib.Core.Path.{refl, sym, ap, ◌∙◌}
 use native.Mathlib.Omega.{arith}
 use Rattle.listing.proofs.Names.{op_of_here, op_of_down}
-use Rattle.listing.specs.Forms.{op_of, text}
+use Rattle.listing.specs.Forms.{op_of}
 use Rattle.listing.proofs.forms.op_at.Goals as goal
 
 pub loop-op-init : goal.loop-op-init

@@ -1,10 +1,7 @@
-use Prim.Native.Nat.{ℕ, ◌≤◌}
-use borrow.Author.Rules.{rules}
+use Prim.Native.Nat.{◌≤◌}
 use lib.ListN.{drop}
-use mathlib.Core.Path.{refl, sym, ap, ◌∙◌, ◌≡◌}
-use native.Mathlib.Omega.{arith}
-use Rattle.listing.proofs.Names.{op_of_here, op_of_down}
-use Rattle.listing.specs.Forms.{op_of, text}
+use mathlib.Core.Path.{◌≡◌}
+use Rattle.listing.specs.Forms.{op_of}
 use Rattle.listing.proofs.forms.op_at.Given as goal
 
 abbrev pub invariant-loop-op : goal.invariant-loop-op

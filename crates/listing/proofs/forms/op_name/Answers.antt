@@ -1,4 +1,3 @@
-use borrow.Author.Rules.{rules}
 use native.Mathlib.Omega.{arith}
 use Rattle.listing.proofs.Names.{length_at, length_name}
 use Rattle.listing.proofs.Scans.{gets_nothing, gets_one, name_missing, name_found}

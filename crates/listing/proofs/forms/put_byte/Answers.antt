@@ -1,4 +1,3 @@
-use borrow.Author.Rules.{rules}
 use Rattle.listing.proofs.Rooms.{grown_none, grown_store}
 use Rattle.listing.proofs.forms.put_byte.Goals as goal
 

@@ -1,4 +1,3 @@
-use borrow.Author.Rules.{rules}
 use native.Mathlib.Omega.{arith}
 use Rattle.listing.proofs.Items.{item_dec, item_name, item_low, item_hex, item_high}
 use Rattle.listing.specs.Forms.{render_item}

@@ -1,12 +1,7 @@
 use Prim.Native.Nat.{◌<◌, ◌≤◌, ◌+◌, ◌-◌}
-use borrow.Author.Rules.{rules}
-use lib.ListN.{length, take, length-set}
-use mathlib.Core.Path.{refl, sym, ◌≡◌}
-use native.Mathlib.Nat.{add-zero}
-use native.Mathlib.Omega.{arith}
-use Rattle.listing.proofs.Names.{cell_at, length_at, length_name}
-use Rattle.listing.proofs.Rooms.{name_whole, list_grows, grown_none}
-use Rattle.listing.specs.Forms.{spell, bytes, name_of}
+use lib.ListN.{length, take}
+use mathlib.Core.Path.{◌≡◌}
+use Rattle.listing.specs.Forms.{name_of}
 use Rattle.listing.specs.PrivatePlaces.{Grown}
 use Rattle.listing.proofs.forms.put_name.Given as goal
 

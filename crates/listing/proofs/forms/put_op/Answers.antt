@@ -1,4 +1,3 @@
-use borrow.Author.Rules.{rules}
 use Rattle.listing.proofs.Names.{no_name}
 use Rattle.listing.proofs.Rooms.{grown_none}
 use Rattle.listing.proofs.forms.put_op.Goals as goal

@@ -1,9 +1,7 @@
-use Prim.Native.Nat.{◌-◌}
-use borrow.Author.Rules.{rules}
-use lib.ListN.{get_or, length}
+use lib.ListN.{get_or}
 use native.Mathlib.Omega.{arith}
 use Rattle.listing.proofs.Trips.{takes_one}
-use Rattle.listing.proofs.Walks.{rendering_start, room_there, rendering_more, rendering_end, Rendering}
+use Rattle.listing.proofs.Walks.{rendering_start, room_there, rendering_more, rendering_end}
 use Rattle.listing.specs.PrivatePlaces.{item_of}
 use Rattle.listing.proofs.forms.render.Goals as goal
 

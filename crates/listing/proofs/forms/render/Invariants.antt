@@ -1,10 +1,6 @@
 use Prim.Native.Nat.{◌-◌}
-use borrow.Author.Rules.{rules}
-use lib.ListN.{get_or, length}
-use native.Mathlib.Omega.{arith}
-use Rattle.listing.proofs.Trips.{takes_one}
-use Rattle.listing.proofs.Walks.{rendering_start, room_there, rendering_more, rendering_end, Rendering}
-use Rattle.listing.specs.PrivatePlaces.{item_of}
+use lib.ListN.{length}
+use Rattle.listing.proofs.Walks.{Rendering}
 use Rattle.listing.proofs.forms.render.Given as goal
 
 abbrev pub invariant-loop-f : goal.invariant-loop-f

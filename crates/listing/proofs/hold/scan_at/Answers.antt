@@ -1,4 +1,3 @@
-use borrow.Author.Rules.{rules}
 use native.Mathlib.Omega.{arith}
 use Rattle.listing.proofs.FormatTable.{old_head_form, head_2_form, line_form, by_line, by_head, by_two, by_old}
 use Rattle.listing.proofs.Readers.{found_past}

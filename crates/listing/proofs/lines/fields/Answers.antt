@@ -1,6 +1,5 @@
 use Rattle.listing.specs.PrivateLines.{insn_before}
 use mathlib.Core.Path.{refl}
-use borrow.Author.Rules.{rules}
 use Rattle.listing.proofs.lines.fields.Goals as goal
 
 pub returns : goal.returns

@@ -1,6 +1,5 @@
 use native.Mathlib.Omega.{arith}
 use Prim.Native.Nat.{◌+◌}
-use borrow.Author.Rules.{rules}
 use Rattle.listing.proofs.lines.five.Goals as goal
 
 pub overflow_cast-three : goal.overflow_cast-three

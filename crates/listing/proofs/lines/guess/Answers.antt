@@ -1,7 +1,6 @@
 use native.Mathlib.Omega.{arith}
 use mathlib.Core.Path.{refl}
 use Rattle.listing.specs.Forms.{names, name_of, bytes, spell}
-use borrow.Author.Rules.{rules}
 use Rattle.listing.proofs.lines.guess.Goals as goal
 
 pub guess_row-requires : goal.guess_row-requires

@@ -1,6 +1,5 @@
 use native.Mathlib.Omega.{arith}
 use Prim.Native.Nat.{◌+◌}
-use borrow.Author.Rules.{rules}
 use Rattle.listing.proofs.lines.guess_at.Goals as goal
 
 pub overflow_cast-text : goal.overflow_cast-text

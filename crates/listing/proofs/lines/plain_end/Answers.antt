@@ -1,8 +1,6 @@
 use native.Mathlib.Omega.{arith}
 use mathlib.Core.Path.{refl}
-use mathlib.Core.Bool.{false≢true}
-use Rattle.listing.proofs.LineRows.{length_line, line_stands, line_plain}
-use borrow.Author.Rules.{rules}
+use Rattle.listing.proofs.LineRows.{length_line, line_plain}
 use Rattle.listing.proofs.lines.plain_end.Goals as goal
 
 pub returns-then-text-at-lt48 : goal.returns-then-text-at-lt48

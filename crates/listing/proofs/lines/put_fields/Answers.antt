@@ -6,7 +6,6 @@ use Rattle.listing.specs.PrivateLines.{fields_of}
 use Rattle.listing.proofs.Rooms.{grown_more}
 use Rattle.listing.proofs.LineWrites.{field_end}
 use mathlib.Core.Path.{refl}
-use borrow.Author.Rules.{rules}
 use Rattle.listing.proofs.lines.put_fields.Goals as goal
 
 pub put_field-d-requires : goal.put_field-d-requires

@@ -1,5 +1,4 @@
-use lib.ListN.{length, get_or}
-use mathlib.Core.Path.{ap, ◌∙◌}
+use lib.ListN.{get_or}
 use native.Mathlib.Omega.{arith}
 use Prim.Native.Nat.{◌*◌, ◌-◌}
 use Rattle.listing.proofs.LineRows.{length_line}

@@ -2,7 +2,6 @@ use native.Mathlib.Omega.{arith}
 use Rattle.listing.specs.Forms.{bytes, spell}
 use Rattle.listing.proofs.Rooms.{grown_more}
 use Rattle.listing.proofs.LineWrites.{digits_end}
-use borrow.Author.Rules.{rules}
 use Rattle.listing.proofs.lines.put_mod.Goals as goal
 
 pub put_part-requires : goal.put_part-requires

@@ -1,10 +1,8 @@
-use Prim.Native.Nat.{◌≤◌, ◌+◌, ◌-◌}
-use lib.ListN.{length, take, drop, length-set, length-drop}
+use lib.ListN.{drop, length-set, length-drop}
 use lib.Seq.{get_or-drop}
 use mathlib.Core.Path.{refl, ◌≡◌}
 use native.Mathlib.Nat.{add-zero}
 use native.Mathlib.Omega.{arith}
-use Rattle.listing.specs.PrivatePlaces.{Grown}
 use Rattle.listing.proofs.Rooms.{grown_none, list_grows}
 use Rattle.listing.proofs.lines.put_part.Goals as goal
 

@@ -1,11 +1,7 @@
 use Prim.Native.Nat.{◌≤◌, ◌+◌, ◌-◌}
-use lib.ListN.{length, take, drop, length-set, length-drop}
-use lib.Seq.{get_or-drop}
-use mathlib.Core.Path.{refl, ◌≡◌}
-use native.Mathlib.Nat.{add-zero}
-use native.Mathlib.Omega.{arith}
+use lib.ListN.{length, take, drop}
+use mathlib.Core.Path.{◌≡◌}
 use Rattle.listing.specs.PrivatePlaces.{Grown}
-use Rattle.listing.proofs.Rooms.{grown_none, list_grows}
 use Rattle.listing.proofs.lines.put_part.Given as goal
 
 abbrev pub invariant-loop-j : goal.invariant-loop-j

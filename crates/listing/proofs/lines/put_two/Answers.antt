@@ -1,7 +1,6 @@
 use lib.ListN.{length-set}
 use native.Mathlib.Omega.{arith}
 use Rattle.listing.proofs.LineWrites.{two_stores}
-use borrow.Author.Rules.{rules}
 use Rattle.listing.proofs.lines.put_two.Goals as goal
 
 pub bounds-out-at-2 : goal.bounds-out-at-2

@@ -1,9 +1,5 @@
-use Prim.Native.Nat.{◌≤◌, ◌+◌, ◌-◌, ◌<◌, ℕ}
-use lib.ListN.{length, get_or}
-use mathlib.Core.Path.{◌≡◌}
-use mathlib.Core.Bool.{true}
 use native.Mathlib.Omega.{arith}
-use Rattle.listing.proofs.LineRows.{Standing, standing_start, standing_more, standing_end}
+use Rattle.listing.proofs.LineRows.{standing_start, standing_more, standing_end}
 use Rattle.listing.proofs.lines.stands.Goals as goal
 
 pub loop-j-init : goal.loop-j-init

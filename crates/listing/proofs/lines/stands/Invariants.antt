@@ -1,9 +1,5 @@
-use Prim.Native.Nat.{◌≤◌, ◌+◌, ◌-◌, ◌<◌, ℕ}
-use lib.ListN.{length, get_or}
-use mathlib.Core.Path.{◌≡◌}
-use mathlib.Core.Bool.{true}
-use native.Mathlib.Omega.{arith}
-use Rattle.listing.proofs.LineRows.{Standing, standing_start, standing_more, standing_end}
+use Prim.Native.Nat.{◌≤◌, ◌-◌}
+use Rattle.listing.proofs.LineRows.{Standing}
 use Rattle.listing.proofs.lines.stands.Given as goal
 
 abbrev pub invariant-loop-j : goal.invariant-loop-j

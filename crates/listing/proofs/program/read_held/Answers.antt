@@ -1,10 +1,5 @@
-use lib.ListN.{length}
-use mathlib.Core.Path.{ap, ◌∙◌}
-use mathlib.Core.List.{List}
-use Prim.Native.Nat.{ℕ}
 use Rattle.listing.proofs.Readers.{reads_refused, reads_held}
 use Rattle.listing.proofs.Programs.{held_long, held_short}
-use borrow.Author.Rules.{rules}
 use Rattle.listing.proofs.program.read_held.Goals as goal
 
 pub returns-then-text-gt-HELD_BYTES : goal.returns-then-text-gt-HELD_BYTES

@@ -3,7 +3,6 @@ use lib.ListN.{take}
 use lib.Seq.{length-take-le}
 use native.Mathlib.Omega.{arith}
 use Rattle.listing.proofs.Programs.{output_fits, held_list, held_accepted, rewritten_read, rewritten_refused}
-use borrow.Author.Rules.{rules}
 use Rattle.listing.proofs.program.rewrite.Goals as goal
 
 pub slice_bounds-list-end : goal.slice_bounds-list-end

@@ -1,9 +1,4 @@
 use Rattle.listing.specs.Program.{run_report}
-use borrow.Author.Rules.{rules}
-use Rattle.listing.proofs.program.run_reported.Reads as reads
-use Rattle.listing.proofs.program.run_reported.Lts as lts
-use Rattle.listing.proofs.report.report.Reads as report-reads
-use Rattle.runner.proofs.run.run.Reads as run-reads
 use Rattle.listing.proofs.program.run_reported.Goals as goal
 
 -- src/program.rt:14:1

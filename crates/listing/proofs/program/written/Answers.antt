@@ -1,6 +1,4 @@
-use lib.ListN.{length}
 use Rattle.listing.proofs.Programs.{writes_report}
-use borrow.Author.Rules.{rules}
 use Rattle.listing.proofs.program.written.Goals as goal
 
 pub returns : goal.returns

@@ -1,10 +1,6 @@
-use Prim.Native.Nat.{ℕ}
-use mathlib.Core.List.{List}
-use Prim.Native.Nat.{◌-◌}
 use borrow.Author.Rules.{rules}
 use native.Mathlib.Omega.{arith}
 use Rattle.listing.specs.Forms.{bytes, spell}
-use Rattle.listing.specs.PrivateReader.{Filling}
 use Rattle.listing.proofs.LineRows.{low_rows, high_rows}
 use Rattle.listing.proofs.Readers.{filling_room, filling_more, filling_end}
 use Rattle.listing.proofs.reader.fill_lines.Goals as goal

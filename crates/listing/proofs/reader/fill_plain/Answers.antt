@@ -1,8 +1,5 @@
-use Prim.Native.Nat.{◌-◌}
 use borrow.Author.Rules.{rules}
 use mathlib.Core.Path.{refl}
-use native.Mathlib.Omega.{arith}
-use Rattle.listing.specs.PrivateReader.{Filling}
 use Rattle.listing.proofs.Readers.{filling_start, filling_room, filling_line, filling_count}
 use Rattle.listing.proofs.reader.fill_plain.Goals as goal
 

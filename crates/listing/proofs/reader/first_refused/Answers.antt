@@ -1,6 +1,5 @@
 use Rattle.runner.specs.Checks.{insn_at}
 use Rattle.listing.proofs.Readers.{first_new, first_kept, first_held}
-use borrow.Author.Rules.{rules}
 use Rattle.listing.proofs.reader.first_refused.Goals as goal
 
 pub returns-then-next-ne0 : goal.returns-then-next-ne0

@@ -1,7 +1,5 @@
 use Prim.Native.Nat.{◌-◌}
-use native.Mathlib.Omega.{arith}
 use Rattle.listing.specs.PrivateReader.{Checking}
-use Rattle.listing.proofs.Readers.{checking_start, checking_plain}
 use Rattle.listing.proofs.reader.plain_lines.Given as goal
 
 abbrev pub invariant-loop-i : goal.invariant-loop-i

@@ -1,11 +1,8 @@
-use Prim.Native.Nat.{◌≤◌, ◌+◌, ◌-◌}
-use borrow.Author.Rules.{rules}
-use lib.ListN.{length, take, length-set}
+use lib.ListN.{length-set}
 use mathlib.Core.Path.{refl, ◌≡◌}
 use native.Mathlib.Nat.{add-zero}
 use native.Mathlib.Omega.{arith}
 use Rattle.listing.proofs.Rooms.{grown_none, list_grows}
-use Rattle.listing.specs.PrivatePlaces.{Grown}
 use Rattle.listing.proofs.reader.put_words.Goals as goal
 
 pub loop-i-init : goal.loop-i-init

@@ -1,10 +1,6 @@
 use Prim.Native.Nat.{◌≤◌, ◌+◌, ◌-◌}
-use borrow.Author.Rules.{rules}
-use lib.ListN.{length, take, length-set}
-use mathlib.Core.Path.{refl, ◌≡◌}
-use native.Mathlib.Nat.{add-zero}
-use native.Mathlib.Omega.{arith}
-use Rattle.listing.proofs.Rooms.{grown_none, list_grows}
+use lib.ListN.{length, take}
+use mathlib.Core.Path.{◌≡◌}
 use Rattle.listing.specs.PrivatePlaces.{Grown}
 use Rattle.listing.proofs.reader.put_words.Given as goal
 

@@ -2,7 +2,6 @@ use lib.ListN.{length}
 use mathlib.Core.Path.{refl}
 use native.Mathlib.Omega.{arith}
 use Rattle.listing.proofs.Readers.{read_long, read_head, read_headless}
-use borrow.Author.Rules.{rules}
 use Rattle.listing.proofs.reader.read.Goals as goal
 
 pub returns-then-text-gt-TEXT_LIMIT : goal.returns-then-text-gt-TEXT_LIMIT

@@ -5,7 +5,6 @@ use Rattle.listing.specs.Forms.{scan}
 use Rattle.listing.specs.PrivatePlaces.{numbers_of}
 use Rattle.listing.specs.Listing.{lines}
 use Rattle.listing.proofs.Readers.{form_long, reads_refused, reads_filled, read_list_unset, read_list_refused, read_list_short, read_list_filled}
-use borrow.Author.Rules.{rules}
 use Rattle.listing.proofs.reader.read_list.Goals as goal
 
 pub returns-then-found-ne0 : goal.returns-then-found-ne0

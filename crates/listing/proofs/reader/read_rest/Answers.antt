@@ -8,7 +8,6 @@ use Rattle.runner.specs.Checks.{scanned}
 use Rattle.listing.specs.PrivateReader.{format_by}
 use Rattle.listing.proofs.FormatTable.{by_sound}
 use Rattle.listing.proofs.Readers.{reads_refused, read_many, read_faulty, read_extra, read_on, taken_whole}
-use borrow.Author.Rules.{rules}
 use Rattle.listing.proofs.reader.read_rest.Goals as goal
 
 pub returns-then-limit_of-count : goal.returns-then-limit_of-count

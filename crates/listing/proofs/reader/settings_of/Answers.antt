@@ -1,4 +1,3 @@
-use borrow.Author.Rules.{rules}
 use Rattle.listing.specs.Listing.{settings_of}
 use Rattle.listing.proofs.reader.settings_of.Goals as goal
 

@@ -1,8 +1,5 @@
-use Prim.Native.Nat.{◌-◌}
-use borrow.Author.Rules.{rules}
 use native.Mathlib.Omega.{arith}
-use Rattle.lane.specs.Words.{after}
-use Rattle.listing.proofs.Reports.{changing_start, changing_more, changing_end, Changing}
+use Rattle.listing.proofs.Reports.{changing_start, changing_more, changing_end}
 use Rattle.listing.proofs.report.put_changes.Goals as goal
 
 pub loop-p-init : goal.loop-p-init

@@ -1,4 +1,3 @@
-use borrow.Author.Rules.{rules}
 use native.Mathlib.Omega.{arith}
 use Rattle.listing.proofs.Reports.{answer_widest, outcome_widest, outcome_grows}
 use Rattle.listing.proofs.Walks.{render_room}

@@ -1,4 +1,3 @@
-use borrow.Author.Rules.{rules}
 use Rattle.listing.proofs.Reports.{report_done, report_refused}
 use Rattle.listing.proofs.report.put_report.Goals as goal
 

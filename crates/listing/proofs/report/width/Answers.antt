@@ -1,9 +1,8 @@
-use Prim.Native.Nat.{ℕ, ◌≤◌, ◌-◌}
-use borrow.Author.Rules.{rules}
-use mathlib.Core.Path.{refl, sym, ap, ◌∙◌, ◌≡◌}
+use Prim.Native.Nat.{ℕ, ◌-◌}
+use mathlib.Core.Path.{refl, sym, ap, ◌∙◌}
 use native.Mathlib.Omega.{arith}
 use Rattle.listing.proofs.Reports.{power_at, width_here, width_down}
-use Rattle.listing.specs.Report.{width_in, width_of}
+use Rattle.listing.specs.Report.{width_in}
 use Rattle.listing.proofs.report.width.Goals as goal
 
 pub loop-w-init : goal.loop-w-init

@@ -1,8 +1,5 @@
-use Prim.Native.Nat.{ℕ, ◌≤◌, ◌-◌}
-use borrow.Author.Rules.{rules}
-use mathlib.Core.Path.{refl, sym, ap, ◌∙◌, ◌≡◌}
-use native.Mathlib.Omega.{arith}
-use Rattle.listing.proofs.Reports.{power_at, width_here, width_down}
+use Prim.Native.Nat.{◌≤◌}
+use mathlib.Core.Path.{◌≡◌}
 use Rattle.listing.specs.Report.{width_in, width_of}
 use Rattle.listing.proofs.report.width.Given as goal
 

@@ -1,10 +1,8 @@
 use Prim.Native.Nat.{◌*◌}
 use lib.ListN.{get_or}
-use Prim.Native.Nat.{◌-◌}
-use borrow.Author.Rules.{rules}
 use native.Mathlib.Omega.{arith}
 use Rattle.listing.proofs.LineRows.{length_line}
-use Rattle.listing.proofs.Writers.{Counting, counting_start, counting_more, counting_end}
+use Rattle.listing.proofs.Writers.{counting_start, counting_more, counting_end}
 use Rattle.listing.proofs.writer.lines_length.Goals as goal
 
 pub loop-k-init : goal.loop-k-init

@@ -1,6 +1,5 @@
-use Prim.Native.Nat.{◌-◌}
 use native.Mathlib.Omega.{arith}
-use Rattle.listing.proofs.Writers.{Putting, putting_start, putting_room, putting_more, putting_end}
+use Rattle.listing.proofs.Writers.{putting_start, putting_room, putting_more, putting_end}
 use Rattle.listing.proofs.writer.put_lines.Goals as goal
 
 pub loop-k-init : goal.loop-k-init

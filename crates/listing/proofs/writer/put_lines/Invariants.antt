@@ -1,6 +1,5 @@
 use Prim.Native.Nat.{◌-◌}
-use native.Mathlib.Omega.{arith}
-use Rattle.listing.proofs.Writers.{Putting, putting_start, putting_room, putting_more, putting_end}
+use Rattle.listing.proofs.Writers.{Putting}
 use Rattle.listing.proofs.writer.put_lines.Given as goal
 
 abbrev pub invariant-loop-k : goal.invariant-loop-k

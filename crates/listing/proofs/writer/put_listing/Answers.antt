@@ -1,11 +1,8 @@
-use lib.ListN.{length}
-use mathlib.Core.Path.{◌∙◌}
 use native.Mathlib.Omega.{arith}
 use Rattle.listing.specs.Forms.{spell, bytes}
 use Rattle.listing.proofs.FormatTable.{head_2_form}
 use Rattle.listing.proofs.LineRows.{low_rows}
 use Rattle.listing.proofs.Writers.{head_room, head_length, listing_length, listing_put}
-use borrow.Author.Rules.{rules}
 use Rattle.listing.proofs.writer.put_listing.Goals as goal
 
 pub render-at-requires : goal.render-at-requires

@@ -1,10 +1,9 @@
 use lib.ListN.{length}
-use mathlib.Core.Path.{refl, ◌∙◌, ◌≡◌}
+use mathlib.Core.Path.{refl, ◌≡◌}
 use native.Mathlib.Omega.{arith}
 use Rattle.runner.specs.Checks.{list_answer}
 use Rattle.listing.specs.Listing.{accepted_writing}
 use Rattle.listing.proofs.Writers.{few_words, lines_few, list_named, listing_length, write_refused, write_short, write_done}
-use borrow.Author.Rules.{rules}
 use Rattle.listing.proofs.writer.write.Goals as goal
 
 pub returns-then-found-ne0 : goal.returns-then-found-ne0

@@ -1,4 +1,4 @@
-use Rattle.std.proofs.Common.{sym, ◌∙◌, rules, eqb-true}
+use Rattle.std.proofs.Common.{sym, ◌∙◌, eqb-true}
 use Rattle.runner.proofs.checks.answer_of.Goals as goal
 
 pub returns-then-accepts : goal.returns-then-accepts

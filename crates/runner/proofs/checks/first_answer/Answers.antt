@@ -1,7 +1,7 @@
 use Rattle.lane.specs.Refusals.{pass}
 use Rattle.lane.proofs.Cases.{if_true, if_false, if_eq, if_ne}
 use Rattle.runner.specs.Checks.{first_answer}
-use Rattle.std.proofs.Common.{sym, refl, ◌∙◌, rules}
+use Rattle.std.proofs.Common.{sym, refl, ◌∙◌}
 use Rattle.runner.proofs.checks.first_answer.Goals as goal
 
 pub returns-then-is_cut : goal.returns-then-is_cut

@@ -1,7 +1,7 @@
 use Rattle.lane.specs.Refusals.{pass}
 use Rattle.lane.proofs.Cases.{if_true, if_false, if_le, if_gt, if_eq, if_ne}
 use Rattle.runner.specs.Checks.{given_answer}
-use Rattle.std.proofs.Common.{refl, rules}
+use Rattle.std.proofs.Common.{refl}
 use Rattle.runner.proofs.checks.given_answer.Goals as goal
 
 pub returns-then-list-ne0 : goal.returns-then-list-ne0

@@ -1,5 +1,5 @@
-use Rattle.std.proofs.Common.{◌≡◌, ◌-◌, ◌≤◌, ◌∙◌, arith, rules}
-use Rattle.runner.proofs.Quick.{union, union_none, union_more, union_good}
+use Rattle.std.proofs.Common.{◌∙◌, arith, rules}
+use Rattle.runner.proofs.Quick.{union_none, union_more, union_good}
 use Rattle.runner.proofs.checks.image_good.Goals as goal
 
 pub loop-n-init : goal.loop-n-init

@@ -1,5 +1,5 @@
-use Rattle.std.proofs.Common.{◌≡◌, ◌-◌, ◌≤◌, ◌∙◌, arith, rules}
-use Rattle.runner.proofs.Quick.{union, union_none, union_more, union_good}
+use Rattle.std.proofs.Common.{◌≡◌, ◌-◌, ◌≤◌}
+use Rattle.runner.proofs.Quick.{union}
 use Rattle.runner.proofs.checks.image_good.Given as goal
 
 abbrev pub invariant-loop-n : goal.invariant-loop-n

@@ -1,4 +1,4 @@
-use Rattle.std.proofs.Common.{◌≡◌, ◌%◌, arith, rules}
+use Rattle.std.proofs.Common.{◌≡◌, ◌%◌, arith}
 use Rattle.lane.proofs.Fields.{less, least}
 use Rattle.runner.specs.PrivateQuick.{over_of}
 use Rattle.runner.proofs.checks.over_of.Goals as goal

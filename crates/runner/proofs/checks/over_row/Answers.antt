@@ -1,5 +1,4 @@
 use Rattle.runner.specs.PrivateQuick.{over}
-use Rattle.std.proofs.Common.{rules}
 use Rattle.runner.proofs.checks.over_row.Goals as goal
 
 pub returns : goal.returns

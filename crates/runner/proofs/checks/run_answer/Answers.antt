@@ -1,6 +1,6 @@
 use Rattle.runner.proofs.Accepted.{first, given_short}
 use Rattle.runner.specs.Checks.{run_answer}
-use Rattle.std.proofs.Common.{sym, ◌∙◌, rules}
+use Rattle.std.proofs.Common.{sym, ◌∙◌}
 use Rattle.runner.proofs.checks.run_answer.Goals as goal
 
 pub then_scanned-requires : goal.then_scanned-requires

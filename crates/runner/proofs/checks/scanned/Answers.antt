@@ -1,6 +1,6 @@
-use Rattle.std.proofs.Common.{◌≡◌, ℕ, ◌-◌, ◌/◌, ◌≤◌, length, sym, ap, ◌∙◌, arith, rules}
+use Rattle.std.proofs.Common.{ℕ, ◌/◌, length, sym, ap, ◌∙◌, arith, rules}
 use Rattle.runner.proofs.Scan.{scan_on, scan_stop, scan_end, scan_start}
-use Rattle.runner.specs.Checks.{found, scan}
+use Rattle.runner.specs.Checks.{found}
 use Rattle.runner.proofs.checks.scanned.Goals as goal
 
 pub loop-k-init : goal.loop-k-init

@@ -1,6 +1,5 @@
-use Rattle.std.proofs.Common.{◌≡◌, ℕ, ◌-◌, ◌/◌, ◌≤◌, length, sym, ap, ◌∙◌, arith, rules}
-use Rattle.runner.proofs.Scan.{scan_on, scan_stop, scan_end, scan_start}
-use Rattle.runner.specs.Checks.{found, scan}
+use Rattle.std.proofs.Common.{◌≡◌, ◌-◌, ◌≤◌}
+use Rattle.runner.specs.Checks.{scan}
 use Rattle.runner.proofs.checks.scanned.Given as goal
 
 abbrev pub invariant-loop-k : goal.invariant-loop-k

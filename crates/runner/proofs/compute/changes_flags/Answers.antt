@@ -1,4 +1,4 @@
-use Rattle.std.proofs.Common.{◌≡◌, ℕ, Bool, true, false, not, ◌||◌, sym, refl, ◌∙◌, subst, rules, ne_eqb}
+use Rattle.std.proofs.Common.{◌≡◌, ℕ, Bool, true, false, not, ◌||◌, sym, refl, ◌∙◌, subst, ne_eqb}
 use Rattle.lane.specs.Words.{has}
 use Rattle.runner.specs.PrivateCompute.{changes_flags}
 use Rattle.runner.proofs.compute.changes_flags.Goals as goal

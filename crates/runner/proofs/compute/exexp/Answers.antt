@@ -2,7 +2,7 @@ use Rattle.runner.proofs.ComputeRows.{exexp_rows}
 use Rattle.runner.proofs.Lanes.{storing_none}
 use Rattle.runner.proofs.Operands.{no_exexp}
 use Rattle.runner.specs.Image.{lane_in}
-use Rattle.std.proofs.Common.{sym, rules}
+use Rattle.std.proofs.Common.{sym}
 use Rattle.runner.proofs.compute.exexp.Goals as goal
 
 pub returns-then-i-eq1 : goal.returns-then-i-eq1

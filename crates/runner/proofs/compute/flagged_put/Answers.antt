@@ -1,6 +1,6 @@
 use Rattle.runner.proofs.Made.{word_and_flag_in}
 use Rattle.runner.specs.PrivateCompute.{flagged_with}
-use Rattle.std.proofs.Common.{refl, rules}
+use Rattle.std.proofs.Common.{refl}
 use Rattle.runner.proofs.compute.flagged_put.Goals as goal
 
 pub returns : goal.returns

@@ -1,9 +1,6 @@
-use Rattle.std.proofs.Common.{ℕ, ◌-◌, get_or, sym, ◌∙◌, arith, rules}
-use Rattle.lane.specs.Words.{Lane}
+use Rattle.std.proofs.Common.{sym, ◌∙◌}
 use Rattle.runner.proofs.Enabled.{enabled_more}
-use Rattle.runner.proofs.Lanes.{Turned, turn_start, turned_length, turn_more, turn_end}
-use Rattle.runner.specs.PrivateCompute.{flagged_with}
-use Rattle.runner.specs.PrivateRows.{Enabled}
+use Rattle.runner.proofs.Lanes.{turn_start, turned_length, turn_more, turn_end}
 use Rattle.runner.proofs.compute.flagged_rows.Goals as goal
 
 pub loop-n-init : goal.loop-n-init

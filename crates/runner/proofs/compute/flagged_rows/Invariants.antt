@@ -1,7 +1,6 @@
-use Rattle.std.proofs.Common.{ℕ, ◌-◌, get_or, sym, ◌∙◌, arith, rules}
+use Rattle.std.proofs.Common.{ℕ, ◌-◌, get_or}
 use Rattle.lane.specs.Words.{Lane}
-use Rattle.runner.proofs.Enabled.{enabled_more}
-use Rattle.runner.proofs.Lanes.{Turned, turn_start, turned_length, turn_more, turn_end}
+use Rattle.runner.proofs.Lanes.{Turned}
 use Rattle.runner.specs.PrivateCompute.{flagged_with}
 use Rattle.runner.specs.PrivateRows.{Enabled}
 use Rattle.runner.proofs.compute.flagged_rows.Given as goal

@@ -2,7 +2,7 @@ use Rattle.runner.proofs.ComputeRows.{iadd_rows, untouched, words_enabled}
 use Rattle.runner.proofs.Lanes.{storing_none}
 use Rattle.runner.proofs.Operands.{no_iadd}
 use Rattle.runner.specs.Image.{lane_in}
-use Rattle.std.proofs.Common.{sym, rules}
+use Rattle.std.proofs.Common.{sym}
 use Rattle.runner.proofs.compute.iadd_words.Goals as goal
 
 pub returns-then-i-lt8 : goal.returns-then-i-lt8

@@ -3,7 +3,7 @@ use Rattle.runner.proofs.Filled.{operand}
 use Rattle.runner.proofs.Lanes.{storing_same, storing_none}
 use Rattle.runner.proofs.Operands.{no_lz}
 use Rattle.runner.specs.Image.{lane_in}
-use Rattle.std.proofs.Common.{sym, ◌∙◌, rules}
+use Rattle.std.proofs.Common.{sym, ◌∙◌}
 use Rattle.runner.proofs.compute.lz.Goals as goal
 
 pub returns-then-touches : goal.returns-then-touches

@@ -1,6 +1,5 @@
-use Rattle.std.proofs.Common.{ℕ, ◌-◌, get_or, arith, rules}
-use Rattle.runner.proofs.Filled.{Filled, fill_start, fill_more, fill_end}
-use Rattle.runner.specs.PrivateCompute.{lz_count}
+use Rattle.std.proofs.Common.{rules}
+use Rattle.runner.proofs.Filled.{fill_start, fill_more, fill_end}
 use Rattle.runner.proofs.compute.lz_counts.Goals as goal
 
 pub loop-n-init : goal.loop-n-init

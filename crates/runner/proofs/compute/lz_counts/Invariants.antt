@@ -1,5 +1,5 @@
-use Rattle.std.proofs.Common.{ℕ, ◌-◌, get_or, arith, rules}
-use Rattle.runner.proofs.Filled.{Filled, fill_start, fill_more, fill_end}
+use Rattle.std.proofs.Common.{ℕ, ◌-◌, get_or}
+use Rattle.runner.proofs.Filled.{Filled}
 use Rattle.runner.specs.PrivateCompute.{lz_count}
 use Rattle.runner.proofs.compute.lz_counts.Given as goal
 

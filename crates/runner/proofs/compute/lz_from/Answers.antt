@@ -1,4 +1,4 @@
-use Rattle.std.proofs.Common.{ℕ, ◌+◌, ◌%◌, ◌^◌, eqb, ap, ◌∙◌, rules}
+use Rattle.std.proofs.Common.{ℕ, ◌+◌, ◌%◌, ◌^◌, eqb, ap, ◌∙◌}
 use Rattle.lane.specs.Words.{pick}
 use Rattle.runner.proofs.ComputeRows.{limit_is}
 use Rattle.runner.specs.PrivateCompute.{lz_from}

@@ -4,7 +4,7 @@ use Rattle.runner.proofs.Filled.{operand}
 use Rattle.runner.proofs.Lanes.{storing_same, storing_none}
 use Rattle.runner.proofs.Operands.{no_valued}
 use Rattle.runner.specs.Image.{lane_in}
-use Rattle.std.proofs.Common.{sym, ◌∙◌, rules, eq-eqb, ne_eqb}
+use Rattle.std.proofs.Common.{sym, ◌∙◌, eq-eqb, ne_eqb}
 use Rattle.runner.proofs.compute.valued.Goals as goal
 
 pub word_rows-requires : goal.word_rows-requires

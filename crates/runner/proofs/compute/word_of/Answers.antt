@@ -1,6 +1,6 @@
 use Rattle.lane.specs.Words.{pick}
 use Rattle.runner.specs.PrivateCompute.{word_of}
-use Rattle.std.proofs.Common.{rules, ne_eqb}
+use Rattle.std.proofs.Common.{ne_eqb}
 use Rattle.runner.proofs.compute.word_of.Goals as goal
 
 pub returns-in-6 : goal.returns-in-6

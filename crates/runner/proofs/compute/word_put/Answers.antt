@@ -1,6 +1,6 @@
 use Rattle.runner.proofs.Made.{word_in}
 use Rattle.runner.specs.PrivateCompute.{word_with}
-use Rattle.std.proofs.Common.{refl, rules}
+use Rattle.std.proofs.Common.{refl}
 use Rattle.runner.proofs.compute.word_put.Goals as goal
 
 pub returns : goal.returns

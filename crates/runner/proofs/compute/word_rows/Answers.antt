@@ -1,8 +1,6 @@
-use Rattle.std.proofs.Common.{ℕ, ◌-◌, get_or, sym, ◌∙◌, arith, rules}
-use Rattle.lane.specs.Words.{Lane}
+use Rattle.std.proofs.Common.{sym, ◌∙◌}
 use Rattle.runner.proofs.Enabled.{enabled_turn}
-use Rattle.runner.proofs.Lanes.{Turned, turn_start, turned_length, turn_more, turn_end}
-use Rattle.runner.specs.PrivateCompute.{word_with}
+use Rattle.runner.proofs.Lanes.{turn_start, turned_length, turn_more, turn_end}
 use Rattle.runner.proofs.compute.word_rows.Goals as goal
 
 pub loop-n-init : goal.loop-n-init

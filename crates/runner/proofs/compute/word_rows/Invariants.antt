@@ -1,7 +1,6 @@
-use Rattle.std.proofs.Common.{ℕ, ◌-◌, get_or, sym, ◌∙◌, arith, rules}
+use Rattle.std.proofs.Common.{ℕ, ◌-◌, get_or}
 use Rattle.lane.specs.Words.{Lane}
-use Rattle.runner.proofs.Enabled.{enabled_turn}
-use Rattle.runner.proofs.Lanes.{Turned, turn_start, turned_length, turn_more, turn_end}
+use Rattle.runner.proofs.Lanes.{Turned}
 use Rattle.runner.specs.PrivateCompute.{word_with}
 use Rattle.runner.proofs.compute.word_rows.Given as goal
 

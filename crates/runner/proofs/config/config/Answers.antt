@@ -1,4 +1,4 @@
-use Rattle.std.proofs.Common.{ℕ, ◌%◌, sym, arith, rules}
+use Rattle.std.proofs.Common.{ℕ, ◌%◌, sym, arith}
 use Rattle.runner.proofs.ConfigRows.{column_at, config_lane, config_lanes, config_counted, no_config, no_counts_lem, reached_at}
 use Rattle.runner.proofs.Lanes.{storing_none}
 use Rattle.runner.proofs.Tallied.{are_marks, row_marks}

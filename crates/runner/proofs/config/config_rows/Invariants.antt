@@ -1,7 +1,6 @@
-use Rattle.std.proofs.Common.{ℕ, ◌-◌, ◌%◌, [], ◌∷◌, get_or, sym, ◌∙◌, arith, rules}
+use Rattle.std.proofs.Common.{ℕ, ◌-◌, ◌%◌, [], ◌∷◌, get_or}
 use Rattle.lane.specs.Words.{pick, Lane}
-use Rattle.runner.proofs.ConfigRows.{reached_at}
-use Rattle.runner.proofs.Lanes.{Turned, turn_start, turned_length, turn_more, turn_end}
+use Rattle.runner.proofs.Lanes.{Turned}
 use Rattle.runner.specs.PrivateConfig.{reached, written}
 use Rattle.runner.specs.Image.{lane_in}
 use Rattle.runner.proofs.config.config_rows.Given as goal

@@ -1,6 +1,6 @@
 use Rattle.lane.proofs.Cases.{if_lt, if_ge, if_eq, if_ne}
 use Rattle.runner.specs.PrivateConfig.{config_slot}
-use Rattle.std.proofs.Common.{refl, arith, rules}
+use Rattle.std.proofs.Common.{refl, arith}
 use Rattle.runner.proofs.config.config_slot.Goals as goal
 
 pub returns-then-vd-lt4 : goal.returns-then-vd-lt4

@@ -1,6 +1,6 @@
 use Rattle.lane.proofs.Cases.{if_lt, if_ge, if_true, if_false}
 use Rattle.runner.specs.PrivateConfig.{config_value}
-use Rattle.std.proofs.Common.{refl, rules}
+use Rattle.std.proofs.Common.{refl}
 use Rattle.runner.proofs.config.config_value.Goals as goal
 
 pub returns-then-i-lt4 : goal.returns-then-i-lt4

@@ -1,6 +1,6 @@
-use Rattle.std.proofs.Common.{ℕ, ◌-◌, ◌%◌, arith, rules}
+use Rattle.std.proofs.Common.{arith, rules}
 use Rattle.runner.proofs.ConfigRows.{column_more, column_end}
-use Rattle.runner.proofs.Filled.{Spread, spread_start}
+use Rattle.runner.proofs.Filled.{spread_start}
 use Rattle.runner.specs.PrivateConfig.{config_value}
 use Rattle.runner.specs.Image.{lane_in}
 use Rattle.runner.proofs.config.config_values.Goals as goal

@@ -1,7 +1,6 @@
-use Rattle.std.proofs.Common.{ℕ, ◌-◌, ◌%◌, arith, rules}
-use Rattle.runner.proofs.ConfigRows.{column_more, column_end}
-use Rattle.runner.proofs.Filled.{Spread, spread_start}
-use Rattle.runner.specs.PrivateConfig.{reached, reached_in}
+use Rattle.std.proofs.Common.{ℕ, ◌-◌, ◌%◌}
+use Rattle.runner.proofs.Filled.{Spread}
+use Rattle.runner.specs.PrivateConfig.{reached}
 use Rattle.runner.specs.Image.{lane_in}
 use Rattle.runner.specs.PrivateRows.{full}
 use Rattle.runner.proofs.config.reached_masks.Given as goal

@@ -1,6 +1,6 @@
 use Rattle.lane.proofs.Cases.{if_lt, if_ge, if_eq, if_ne}
 use Rattle.runner.specs.PrivateConfig.{written}
-use Rattle.std.proofs.Common.{refl, rules}
+use Rattle.std.proofs.Common.{refl}
 use Rattle.runner.proofs.config.written.Goals as goal
 
 pub returns-then-vd-eq8 : goal.returns-then-vd-eq8

@@ -1,11 +1,10 @@
-use Rattle.std.proofs.Common.{ℕ, ◌+◌, ◌-◌, ◌*◌, ◌%◌, ◌&&◌, get_or, sym, ap, ◌∙◌, arith, rules}
+use Rattle.std.proofs.Common.{◌&&◌, sym, ap, ◌∙◌, arith, rules}
 use Rattle.lane.specs.Load.{captures}
 use Rattle.lane.specs.Words.{Lane, lane_config}
-use Rattle.runner.proofs.Filled.{Filled, fill_start, fill_more, fill_end}
-use Rattle.runner.proofs.Lanes.{turn_start, turned_length, turn_lane, turn_end, Turned}
+use Rattle.runner.proofs.Filled.{fill_start, fill_more, fill_end}
+use Rattle.runner.proofs.Lanes.{turn_start, turned_length, turn_lane, turn_end}
 use Rattle.runner.proofs.LoadRows.{masked_turn, capture_mask, capture_made}
-use Rattle.runner.specs.PrivateLoad.{is_open, is_caught, caught_in, captured_only}
-use Rattle.runner.specs.PrivateRows.{full}
+use Rattle.runner.specs.PrivateLoad.{is_open, caught_in}
 use Rattle.runner.proofs.load.capture_rows.Goals as goal
 
 pub loop-n-init : goal.loop-n-init

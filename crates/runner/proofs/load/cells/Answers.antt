@@ -1,8 +1,6 @@
-use Rattle.std.proofs.Common.{◌≡◌, ℕ, ◌-◌, ◌≤◌, Bool, arith, rules}
-use Rattle.runner.proofs.Filled.{Filled, fill_start, fill_more, fill_end}
+use Rattle.std.proofs.Common.{arith, rules}
+use Rattle.runner.proofs.Filled.{fill_start, fill_more, fill_end}
 use Rattle.runner.proofs.LoadRows.{cell_made}
-use Rattle.runner.specs.PrivateLoad.{cell_of}
-use Rattle.runner.specs.PrivateRows.{row, full}
 use Rattle.runner.proofs.load.cells.Goals as goal
 
 pub loop-n-init : goal.loop-n-init

@@ -1,6 +1,5 @@
-use Rattle.std.proofs.Common.{◌≡◌, ℕ, ◌-◌, ◌≤◌, Bool, arith, rules}
-use Rattle.runner.proofs.Filled.{Filled, fill_start, fill_more, fill_end}
-use Rattle.runner.proofs.LoadRows.{cell_made}
+use Rattle.std.proofs.Common.{◌≡◌, ℕ, ◌-◌, ◌≤◌, Bool}
+use Rattle.runner.proofs.Filled.{Filled}
 use Rattle.runner.specs.PrivateLoad.{cell_of}
 use Rattle.runner.specs.PrivateRows.{row, full}
 use Rattle.runner.proofs.load.cells.Given as goal

@@ -5,7 +5,7 @@ use Rattle.runner.proofs.Lanes.{storing_none}
 use Rattle.runner.proofs.LoadRows.{no_load}
 use Rattle.runner.specs.Image.{lane_in}
 use Rattle.runner.specs.PrivateLoad.{loaded_at}
-use Rattle.std.proofs.Common.{sym, ap, ◌∙◌, rules}
+use Rattle.std.proofs.Common.{sym, ap, ◌∙◌}
 use Rattle.lane.specs.Load as Rules
 use Rattle.runner.proofs.load.load.Goals as goal
 

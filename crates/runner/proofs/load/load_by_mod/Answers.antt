@@ -1,5 +1,4 @@
 use Rattle.runner.proofs.LoadRows.{no_mod}
-use Rattle.std.proofs.Common.{rules}
 use Rattle.runner.proofs.load.load_by_mod.Goals as goal
 
 pub returns-in-1 : goal.returns-in-1

@@ -1,9 +1,8 @@
-use Rattle.std.proofs.Common.{ℕ, ◌-◌, ◌%◌, get_or, sym, ◌∙◌, arith, rules}
-use Rattle.lane.specs.Words.{Lane}
+use Rattle.std.proofs.Common.{sym, ◌∙◌, arith}
 use Rattle.runner.proofs.Filled.{operand}
-use Rattle.runner.proofs.Lanes.{turn_start, turned_length, turn_end, Turned}
+use Rattle.runner.proofs.Lanes.{turn_start, turned_length, turn_end}
 use Rattle.runner.proofs.LoadRows.{masked_turn, load_made}
-use Rattle.runner.specs.PrivateLoad.{is_open, open_in, loaded_only}
+use Rattle.runner.specs.PrivateLoad.{is_open, open_in}
 use Rattle.runner.proofs.load.load_rows.Goals as goal
 
 pub loop-n-init : goal.loop-n-init

@@ -1,9 +1,7 @@
-use Rattle.std.proofs.Common.{ℕ, ◌-◌, ◌%◌, get_or, sym, ◌∙◌, arith, rules}
+use Rattle.std.proofs.Common.{ℕ, ◌-◌, ◌%◌, get_or}
 use Rattle.lane.specs.Words.{Lane}
-use Rattle.runner.proofs.Filled.{operand}
-use Rattle.runner.proofs.Lanes.{turn_start, turned_length, turn_end, Turned}
-use Rattle.runner.proofs.LoadRows.{masked_turn, load_made}
-use Rattle.runner.specs.PrivateLoad.{is_open, open_in, loaded_only}
+use Rattle.runner.proofs.Lanes.{Turned}
+use Rattle.runner.specs.PrivateLoad.{loaded_only}
 use Rattle.runner.proofs.load.load_rows.Given as goal
 
 abbrev pub invariant-loop-n : goal.invariant-loop-n

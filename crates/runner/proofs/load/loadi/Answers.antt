@@ -1,7 +1,7 @@
 use Rattle.runner.proofs.Lanes.{storing_none}
 use Rattle.runner.proofs.LoadRows.{no_loadi}
 use Rattle.runner.specs.Image.{lane_in}
-use Rattle.std.proofs.Common.{sym, rules}
+use Rattle.std.proofs.Common.{sym}
 use Rattle.runner.proofs.load.loadi.Goals as goal
 
 pub returns-else-i-lt8 : goal.returns-else-i-lt8

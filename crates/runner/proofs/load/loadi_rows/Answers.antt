@@ -1,7 +1,6 @@
-use Rattle.std.proofs.Common.{ℕ, ◌-◌, sym, ◌∙◌, arith, rules}
-use Rattle.lane.specs.Load.{loadi}
-use Rattle.lane.specs.Words.{Lane, enabled}
-use Rattle.runner.proofs.Lanes.{turn_start, turned_length, turn_end, Turned}
+use Rattle.std.proofs.Common.{sym, ◌∙◌, arith}
+use Rattle.lane.specs.Words.{enabled}
+use Rattle.runner.proofs.Lanes.{turn_start, turned_length, turn_end}
 use Rattle.runner.proofs.LoadRows.{masked_turn, loadi_made}
 use Rattle.runner.proofs.load.loadi_rows.Goals as goal
 

@@ -1,8 +1,7 @@
-use Rattle.std.proofs.Common.{ℕ, ◌-◌, sym, ◌∙◌, arith, rules}
+use Rattle.std.proofs.Common.{ℕ, ◌-◌}
 use Rattle.lane.specs.Load.{loadi}
-use Rattle.lane.specs.Words.{Lane, enabled}
-use Rattle.runner.proofs.Lanes.{turn_start, turned_length, turn_end, Turned}
-use Rattle.runner.proofs.LoadRows.{masked_turn, loadi_made}
+use Rattle.lane.specs.Words.{Lane}
+use Rattle.runner.proofs.Lanes.{Turned}
 use Rattle.runner.proofs.load.loadi_rows.Given as goal
 
 abbrev pub invariant-loop-n : goal.invariant-loop-n

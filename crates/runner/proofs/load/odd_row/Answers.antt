@@ -1,8 +1,8 @@
-use Rattle.std.proofs.Common.{ℕ, ◌-◌, arith, rules}
-use Rattle.runner.proofs.Filled.{Spread, spread_start, spread_end}
+use Rattle.std.proofs.Common.{arith, rules}
+use Rattle.runner.proofs.Filled.{spread_start, spread_end}
 use Rattle.runner.proofs.LoadRows.{odd_column}
-use Rattle.runner.specs.PrivateLoad.{odd_at, odd_in}
-use Rattle.runner.specs.PrivateRows.{full, row}
+use Rattle.runner.specs.PrivateLoad.{odd_in}
+use Rattle.runner.specs.PrivateRows.{row}
 use Rattle.runner.proofs.load.odd_row.Goals as goal
 
 pub loop-j-init : goal.loop-j-init

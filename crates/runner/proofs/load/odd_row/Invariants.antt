@@ -1,8 +1,7 @@
-use Rattle.std.proofs.Common.{ℕ, ◌-◌, arith, rules}
-use Rattle.runner.proofs.Filled.{Spread, spread_start, spread_end}
-use Rattle.runner.proofs.LoadRows.{odd_column}
-use Rattle.runner.specs.PrivateLoad.{odd_at, odd_in}
-use Rattle.runner.specs.PrivateRows.{full, row}
+use Rattle.std.proofs.Common.{ℕ, ◌-◌}
+use Rattle.runner.proofs.Filled.{Spread}
+use Rattle.runner.specs.PrivateLoad.{odd_at}
+use Rattle.runner.specs.PrivateRows.{full}
 use Rattle.runner.proofs.load.odd_row.Given as goal
 
 abbrev pub invariant-loop-j : goal.invariant-loop-j

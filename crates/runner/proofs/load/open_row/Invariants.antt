@@ -1,8 +1,7 @@
-use Rattle.std.proofs.Common.{ℕ, ◌-◌, arith, rules}
-use Rattle.runner.proofs.Filled.{Filled, fill_start, fill_more, fill_end}
-use Rattle.runner.proofs.LoadRows.{open_mask}
+use Rattle.std.proofs.Common.{ℕ, ◌-◌}
+use Rattle.runner.proofs.Filled.{Filled}
 use Rattle.runner.specs.Image.{lane_in}
-use Rattle.runner.specs.PrivateLoad.{is_open, open_in}
+use Rattle.runner.specs.PrivateLoad.{is_open}
 use Rattle.runner.specs.PrivateRows.{full}
 use Rattle.runner.proofs.load.open_row.Given as goal
 

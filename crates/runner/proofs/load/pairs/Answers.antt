@@ -1,5 +1,5 @@
-use Rattle.std.proofs.Common.{ℕ, ◌+◌, ◌-◌, get_or, arith, rules}
-use Rattle.runner.proofs.Filled.{Spread, spread_start, spread_end}
+use Rattle.std.proofs.Common.{◌+◌, arith, rules}
+use Rattle.runner.proofs.Filled.{spread_start, spread_end}
 use Rattle.runner.proofs.LoadRows.{pair_more}
 use Rattle.runner.proofs.load.pairs.Goals as goal
 

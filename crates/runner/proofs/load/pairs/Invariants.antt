@@ -1,6 +1,5 @@
-use Rattle.std.proofs.Common.{ℕ, ◌+◌, ◌-◌, get_or, arith, rules}
-use Rattle.runner.proofs.Filled.{Spread, spread_start, spread_end}
-use Rattle.runner.proofs.LoadRows.{pair_more}
+use Rattle.std.proofs.Common.{ℕ, ◌+◌, ◌-◌, get_or}
+use Rattle.runner.proofs.Filled.{Spread}
 use Rattle.runner.proofs.load.pairs.Given as goal
 
 abbrev pub invariant-loop-k : goal.invariant-loop-k

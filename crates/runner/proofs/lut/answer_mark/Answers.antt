@@ -1,6 +1,5 @@
 use Rattle.lane.specs.Words.{pick}
 use Rattle.runner.specs.PrivateRows.{full}
-use Rattle.std.proofs.Common.{rules}
 use Rattle.runner.proofs.lut.answer_mark.Goals as goal
 
 pub returns-in-Number : goal.returns-in-Number

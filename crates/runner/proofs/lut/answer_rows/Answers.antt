@@ -1,9 +1,6 @@
-use Rattle.std.proofs.Common.{ℕ, ◌-◌, [], ◌∷◌, get_or, sym, ◌∙◌, arith, rules}
-use Rattle.lane.specs.Words.{Lane}
-use Rattle.runner.proofs.Lanes.{Turned, turn_start, turned_length, turn_more, turn_end}
+use Rattle.std.proofs.Common.{sym, ◌∙◌, arith}
+use Rattle.runner.proofs.Lanes.{turn_start, turned_length, turn_more, turn_end}
 use Rattle.runner.proofs.LutRows.{all_ones, put_all}
-use Rattle.runner.specs.PrivateLut.{is_set, answered, stored_word}
-use lib.Ieee.{nan}
 use Rattle.runner.proofs.lut.answer_rows.Goals as goal
 
 pub loop-n-init : goal.loop-n-init

@@ -1,4 +1,3 @@
-use Rattle.std.proofs.Common.{rules}
 use Rattle.runner.proofs.lut.answer_slot.Goals as goal
 
 pub returns-in-Number : goal.returns-in-Number

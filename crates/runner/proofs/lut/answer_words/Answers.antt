@@ -1,9 +1,6 @@
-use Rattle.std.proofs.Common.{ℕ, ◌-◌, ◌%◌, get_or, arith, rules}
-use Rattle.lane.specs.Swap.{acts}
-use Rattle.runner.proofs.LutRows.{answer_by, Laid, laid_start, laid_more}
+use Rattle.std.proofs.Common.{get_or, arith, rules}
+use Rattle.runner.proofs.LutRows.{answer_by, laid_start, laid_more}
 use Rattle.runner.specs.Image.{lane_in}
-use Rattle.runner.specs.PrivateLut.{answered}
-use lib.Ieee.{nan}
 use Rattle.runner.proofs.lut.answer_words.Goals as goal
 
 pub loop-n-init : goal.loop-n-init

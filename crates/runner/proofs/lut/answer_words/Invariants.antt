@@ -1,6 +1,6 @@
-use Rattle.std.proofs.Common.{ℕ, ◌-◌, ◌%◌, get_or, arith, rules}
+use Rattle.std.proofs.Common.{ℕ, ◌-◌, ◌%◌, get_or}
 use Rattle.lane.specs.Swap.{acts}
-use Rattle.runner.proofs.LutRows.{answer_by, Laid, laid_start, laid_more}
+use Rattle.runner.proofs.LutRows.{Laid}
 use Rattle.runner.specs.Image.{lane_in}
 use Rattle.runner.specs.PrivateLut.{answered}
 use lib.Ieee.{nan}

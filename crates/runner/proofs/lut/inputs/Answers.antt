@@ -1,7 +1,5 @@
-use Rattle.std.proofs.Common.{ℕ, ◌-◌, arith, rules}
-use Rattle.lane.specs.Lut.{input_of}
-use Rattle.runner.proofs.LutRows.{Floats, floats_start, floats_more}
-use Rattle.runner.specs.Image.{lane_in}
+use Rattle.std.proofs.Common.{arith, rules}
+use Rattle.runner.proofs.LutRows.{floats_start, floats_more}
 use Rattle.runner.proofs.lut.inputs.Goals as goal
 
 pub loop-n-init : goal.loop-n-init

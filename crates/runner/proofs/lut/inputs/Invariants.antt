@@ -1,6 +1,6 @@
-use Rattle.std.proofs.Common.{ℕ, ◌-◌, arith, rules}
+use Rattle.std.proofs.Common.{ℕ, ◌-◌}
 use Rattle.lane.specs.Lut.{input_of}
-use Rattle.runner.proofs.LutRows.{Floats, floats_start, floats_more}
+use Rattle.runner.proofs.LutRows.{Floats}
 use Rattle.runner.specs.Image.{lane_in}
 use Rattle.runner.proofs.lut.inputs.Given as goal
 

@@ -4,7 +4,7 @@ use Rattle.runner.proofs.Counts.{counted_none}
 use Rattle.runner.proofs.Lanes.{storing_none}
 use Rattle.runner.proofs.LutRows.{below_eight, no_lut}
 use Rattle.runner.specs.Image.{lane_in}
-use Rattle.std.proofs.Common.{sym, ap, ◌∙◌, rules, ne_eqb}
+use Rattle.std.proofs.Common.{sym, ap, ◌∙◌, ne_eqb}
 use Rattle.runner.proofs.lut.lut.Goals as goal
 
 pub lut_direct-requires : goal.lut_direct-requires

@@ -1,5 +1,4 @@
 use Rattle.runner.proofs.Filled.{operand}
-use Rattle.std.proofs.Common.{rules}
 use Rattle.runner.proofs.lut.results.Goals as goal
 
 pub returns : goal.returns

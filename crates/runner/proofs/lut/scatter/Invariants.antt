@@ -1,7 +1,6 @@
-use Rattle.std.proofs.Common.{ℕ, ◌+◌, ◌-◌, [], ◌∷◌, get_or, sym, ◌∙◌, arith, rules}
+use Rattle.std.proofs.Common.{ℕ, ◌+◌, ◌-◌, [], ◌∷◌, get_or}
 use Rattle.lane.specs.Words.{Lane}
-use Rattle.runner.proofs.Lanes.{Turned, turn_start, turned_length, turn_more, turn_end}
-use Rattle.runner.proofs.LutRows.{all_ones, put_all}
+use Rattle.runner.proofs.Lanes.{Turned}
 use Rattle.runner.proofs.lut.scatter.Given as goal
 
 abbrev pub invariant-loop-n : goal.invariant-loop-n

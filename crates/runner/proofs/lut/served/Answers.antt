@@ -1,8 +1,5 @@
-use Rattle.std.proofs.Common.{ℕ, ◌-◌, get_or, arith, rules}
-use Rattle.lane.specs.Lut.{serving}
-use Rattle.runner.proofs.Filled.{Filled, fill_start, fill_more, fill_end}
-use Rattle.runner.specs.Image.{lane_in}
-use lib.Ieee.{nan}
+use Rattle.std.proofs.Common.{arith, rules}
+use Rattle.runner.proofs.Filled.{fill_start, fill_more, fill_end}
 use Rattle.runner.proofs.lut.served.Goals as goal
 
 pub loop-n-init : goal.loop-n-init

@@ -1,6 +1,6 @@
-use Rattle.std.proofs.Common.{ℕ, ◌-◌, get_or, arith, rules}
+use Rattle.std.proofs.Common.{ℕ, ◌-◌, get_or}
 use Rattle.lane.specs.Lut.{serving}
-use Rattle.runner.proofs.Filled.{Filled, fill_start, fill_more, fill_end}
+use Rattle.runner.proofs.Filled.{Filled}
 use Rattle.runner.specs.Image.{lane_in}
 use lib.Ieee.{nan}
 use Rattle.runner.proofs.lut.served.Given as goal

@@ -1,7 +1,5 @@
-use Rattle.std.proofs.Common.{ℕ, ◌-◌, get_or, arith, rules}
-use Rattle.lane.specs.Lut.{piece_of, sum_of}
-use Rattle.runner.proofs.LutRows.{Floats, floats_start, floats_more}
-use lib.Ieee.{nan}
+use Rattle.std.proofs.Common.{arith, rules}
+use Rattle.runner.proofs.LutRows.{floats_start, floats_more}
 use Rattle.runner.proofs.lut.sums.Goals as goal
 
 pub loop-n-init : goal.loop-n-init

@@ -1,6 +1,6 @@
-use Rattle.std.proofs.Common.{ℕ, ◌-◌, get_or, arith, rules}
+use Rattle.std.proofs.Common.{ℕ, ◌-◌, get_or}
 use Rattle.lane.specs.Lut.{piece_of, sum_of}
-use Rattle.runner.proofs.LutRows.{Floats, floats_start, floats_more}
+use Rattle.runner.proofs.LutRows.{Floats}
 use lib.Ieee.{nan}
 use Rattle.runner.proofs.lut.sums.Given as goal
 

@@ -1,5 +1,5 @@
-use Rattle.std.proofs.Common.{ℕ, ◌+◌, ◌-◌, get_or, refl, arith, rules}
-use Rattle.runner.proofs.Filled.{Filled, fill_start, fill_more, fill_end}
+use Rattle.std.proofs.Common.{refl, rules}
+use Rattle.runner.proofs.Filled.{fill_start, fill_more, fill_end}
 use Rattle.runner.proofs.rows.copied.Goals as goal
 
 pub loop-n-init : goal.loop-n-init

@@ -1,5 +1,5 @@
-use Rattle.std.proofs.Common.{ℕ, ◌+◌, ◌-◌, get_or, refl, arith, rules}
-use Rattle.runner.proofs.Filled.{Filled, fill_start, fill_more, fill_end}
+use Rattle.std.proofs.Common.{ℕ, ◌+◌, ◌-◌, get_or}
+use Rattle.runner.proofs.Filled.{Filled}
 use Rattle.runner.proofs.rows.copied.Given as goal
 
 abbrev pub invariant-loop-n : goal.invariant-loop-n

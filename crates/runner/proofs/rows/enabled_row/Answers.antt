@@ -1,9 +1,6 @@
-use Rattle.std.proofs.Common.{ℕ, ◌-◌, arith, rules}
-use Rattle.lane.specs.Words.{enabled}
+use Rattle.std.proofs.Common.{arith}
 use Rattle.runner.proofs.Enabled.{enabled_end}
-use Rattle.runner.proofs.Filled.{Spread, spread_start, one_more}
-use Rattle.runner.specs.Image.{lane_in}
-use Rattle.runner.specs.PrivateRows.{full}
+use Rattle.runner.proofs.Filled.{spread_start, one_more}
 use Rattle.runner.proofs.rows.enabled_row.Goals as goal
 
 pub loop-n-init : goal.loop-n-init

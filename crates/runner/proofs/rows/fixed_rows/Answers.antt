@@ -1,8 +1,8 @@
-use Rattle.std.proofs.Common.{ℕ, ◌+◌, ◌-◌, ◌/◌, ◌%◌, ◌∙◌, arith, rules}
-use Rattle.lane.specs.Words.{pick, fixed_word}
-use Rattle.runner.proofs.Filled.{Spread, spread_start, rows_more, spread_end}
+use Rattle.std.proofs.Common.{◌+◌, ◌∙◌, arith, rules}
+use Rattle.lane.specs.Words.{pick}
+use Rattle.runner.proofs.Filled.{spread_start, rows_more, spread_end}
 use Rattle.runner.proofs.Operands.{fixed_place}
-use Rattle.runner.specs.PrivateRows.{fixed_register, fixed_rows}
+use Rattle.runner.specs.PrivateRows.{fixed_rows}
 use Rattle.runner.proofs.rows.fixed_rows.Goals as goal
 
 pub loop-n-init : goal.loop-n-init

@@ -1,8 +1,7 @@
-use Rattle.std.proofs.Common.{ℕ, ◌+◌, ◌-◌, ◌/◌, ◌%◌, ◌∙◌, arith, rules}
-use Rattle.lane.specs.Words.{pick, fixed_word}
-use Rattle.runner.proofs.Filled.{Spread, spread_start, rows_more, spread_end}
-use Rattle.runner.proofs.Operands.{fixed_place}
-use Rattle.runner.specs.PrivateRows.{fixed_register, fixed_rows}
+use Rattle.std.proofs.Common.{ℕ, ◌-◌, ◌/◌, ◌%◌}
+use Rattle.lane.specs.Words.{fixed_word}
+use Rattle.runner.proofs.Filled.{Spread}
+use Rattle.runner.specs.PrivateRows.{fixed_register}
 use Rattle.runner.proofs.rows.fixed_rows.Given as goal
 
 abbrev pub invariant-loop-n : goal.invariant-loop-n

@@ -1,5 +1,4 @@
 use Rattle.runner.proofs.Operands.{stored_bit}
-use Rattle.std.proofs.Common.{rules}
 use Rattle.runner.proofs.rows.is_stored.Goals as goal
 
 pub returns : goal.returns

@@ -1,5 +1,4 @@
 use Rattle.runner.proofs.Lanes.{put_when}
-use Rattle.std.proofs.Common.{rules}
 use Rattle.runner.proofs.rows.put.Goals as goal
 
 pub returns : goal.returns

@@ -1,5 +1,5 @@
 use Rattle.lane.proofs.Cases.{pick_true, pick_false}
-use Rattle.std.proofs.Common.{sym, arith, rules, le-ltb, lt-ltb}
+use Rattle.std.proofs.Common.{sym, arith, le-ltb, lt-ltb}
 use Rattle.runner.proofs.rows.slot_of.Goals as goal
 
 pub returns-then-q-lt8 : goal.returns-then-q-lt8

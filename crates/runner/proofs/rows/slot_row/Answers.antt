@@ -1,4 +1,4 @@
-use Rattle.std.proofs.Common.{◌≡◌, ℕ, ◌+◌, ◌*◌, get_or, ap, ◌∙◌, arith, rules}
+use Rattle.std.proofs.Common.{◌≡◌, ℕ, ◌+◌, ◌*◌, get_or, ap, ◌∙◌, arith}
 use Rattle.runner.proofs.Filled.{row_same}
 use Rattle.runner.specs.Image.{lane_in}
 use Rattle.runner.proofs.rows.slot_row.Goals as goal

@@ -1,4 +1,4 @@
-use Rattle.std.proofs.Common.{ℕ, get_or, ap, rules}
+use Rattle.std.proofs.Common.{ℕ, get_or, ap}
 use Rattle.runner.specs.Image.{lane_in}
 use Rattle.runner.proofs.rows.word_at.Goals as goal
 

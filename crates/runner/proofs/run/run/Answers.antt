@@ -1,6 +1,6 @@
 use Rattle.runner.proofs.Counts.{zeros_are}
 use Rattle.runner.proofs.Steps.{run_sized, ran_done, ran_refused}
-use Rattle.std.proofs.Common.{arith, rules}
+use Rattle.std.proofs.Common.{arith}
 use Rattle.runner.proofs.run.run.Goals as goal
 
 pub step_all-ended-requires : goal.step_all-ended-requires

@@ -1,7 +1,7 @@
-use Rattle.std.proofs.Common.{◌+◌, ◌-◌, ◌*◌, ◌≤◌, length, sym, refl, ap, ◌∙◌, ⊎_elim, arith, rules}
+use Rattle.std.proofs.Common.{◌+◌, ◌*◌, length, sym, refl, ap, ◌∙◌, arith, rules}
 use Rattle.lane.proofs.Stores.{length_build}
 use Rattle.runner.proofs.Counts.{room_left, zeros_are, room_less}
-use Rattle.runner.proofs.Steps.{flagged_left, Reached, reached_start, reached_more, reached_same, reached_end}
+use Rattle.runner.proofs.Steps.{flagged_left, reached_start, reached_more, reached_same, reached_end}
 use Rattle.runner.proofs.Tallied.{enabled_marks, room_owed}
 use Rattle.runner.specs.PrivateSteps.{enabled_in}
 use Rattle.runner.proofs.run.step_all.Goals as goal
@@ -39,7 +39,7 @@ loop-k-preserved c =
     let flags = c.changes_flags.ensures in (
       omega arith,
       elim c.if-changes_flags.branch [
-        then-changes_flags w ↦ reached_same _ _ _ _ _ _ _ _ _ _ _ _ _ _ _ _ _ _ _ _ w.image-is w.dst-is w.go-is w.ties-is w.stores-is w.owed-is w.at-is (reached_more _ _ _ _ _ _ _ _ _ _ _ _ _ _ _ _ _ _ _ _ inv i (flagged_left _ _ _ _ _ _ _ _ _ _ _ (sym flags ∙ w.if-changes_flags.true) inv.dst_long (ap length inv.ties_is ∙ length_build 8 _) w.step_flagged.ensures))
+        | then-changes_flags w ↦ reached_same _ _ _ _ _ _ _ _ _ _ _ _ _ _ _ _ _ _ _ _ w.image-is w.dst-is w.go-is w.ties-is w.stores-is w.owed-is w.at-is (reached_more _ _ _ _ _ _ _ _ _ _ _ _ _ _ _ _ _ _ _ _ inv i (flagged_left _ _ _ _ _ _ _ _ _ _ _ (sym flags ∙ w.if-changes_flags.true) inv.dst_long (ap length inv.ties_is ∙ length_build 8 _) w.step_flagged.ensures))
         | else-changes_flags w ↦ reached_same _ _ _ _ _ _ _ _ _ _ _ _ _ _ _ _ _ _ _ _ w.image-is w.dst-is w.go-is w.ties-is w.stores-is w.owed-is w.at-is (reached_more _ _ _ _ _ _ _ _ _ _ _ _ _ _ _ _ _ _ _ _ inv i w.step_lanes-next.ensures)
       ],
     )

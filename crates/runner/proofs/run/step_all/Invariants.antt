@@ -1,9 +1,5 @@
-use Rattle.std.proofs.Common.{◌+◌, ◌-◌, ◌*◌, ◌≤◌, length, sym, refl, ap, ◌∙◌, ⊎_elim, arith, rules}
-use Rattle.lane.proofs.Stores.{length_build}
-use Rattle.runner.proofs.Counts.{room_left, zeros_are, room_less}
-use Rattle.runner.proofs.Steps.{flagged_left, Reached, reached_start, reached_more, reached_same, reached_end}
-use Rattle.runner.proofs.Tallied.{enabled_marks, room_owed}
-use Rattle.runner.specs.PrivateSteps.{enabled_in}
+use Rattle.std.proofs.Common.{◌-◌, ◌≤◌}
+use Rattle.runner.proofs.Steps.{Reached}
 use Rattle.runner.proofs.run.step_all.Given as goal
 
 abbrev pub invariant-loop-k : goal.invariant-loop-k

@@ -1,5 +1,4 @@
 use Rattle.runner.proofs.Steps.{load_met, store_met}
-use Rattle.std.proofs.Common.{rules}
 use Rattle.runner.proofs.run.step_dst.Goals as goal
 
 pub load-requires : goal.load-requires

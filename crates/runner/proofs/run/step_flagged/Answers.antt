@@ -1,4 +1,4 @@
-use Rattle.std.proofs.Common.{◌+◌, ◌*◌, arith, rules}
+use Rattle.std.proofs.Common.{◌+◌, ◌*◌, arith}
 use Rattle.lane.specs.Rule.{lanewise, stores_of}
 use Rattle.lane.specs.Words.{pick}
 use Rattle.runner.proofs.Counts.{room_less}

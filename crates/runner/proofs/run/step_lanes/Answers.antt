@@ -1,6 +1,6 @@
 use Rattle.runner.proofs.Counts.{room_less}
 use Rattle.runner.proofs.Steps.{met_left, stored_left}
-use Rattle.std.proofs.Common.{sym, ◌∙◌, arith, rules}
+use Rattle.std.proofs.Common.{sym, ◌∙◌, arith}
 use Rattle.runner.proofs.run.step_lanes.Goals as goal
 
 pub step_dst-requires : goal.step_dst-requires

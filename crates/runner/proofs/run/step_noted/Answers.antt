@@ -4,7 +4,7 @@ use Rattle.lane.specs.Words.{pick}
 use Rattle.runner.proofs.Quiet.{quiet_loadi, quiet_valued}
 use Rattle.runner.proofs.Steps.{kept_arm, noted_arm, iadd_leaves, exexp_leaves, noted_rest}
 use Rattle.runner.specs.Image.{lane_in}
-use Rattle.std.proofs.Common.{refl, rules}
+use Rattle.std.proofs.Common.{refl}
 use Rattle.runner.proofs.run.step_noted.Goals as goal
 
 pub valued-requires : goal.valued-requires

@@ -1,4 +1,4 @@
-use Rattle.std.proofs.Common.{◌%◌, ltb, refl, arith, rules, ne_eqb}
+use Rattle.std.proofs.Common.{◌%◌, ltb, refl, arith, ne_eqb}
 use Rattle.lane.proofs.Counted.{flag_small}
 use Rattle.lane.specs.Rule.{lanewise, stores_of}
 use Rattle.lane.specs.Words.{pick}

@@ -1,6 +1,5 @@
-use Rattle.std.proofs.Common.{ℕ, ◌+◌, ◌-◌, ◌*◌, get_or, arith, rules}
-use Rattle.runner.proofs.Filled.{Filled, fill_start, fill_more, fill_end}
-use Rattle.runner.specs.PrivateStore.{pair_of}
+use Rattle.std.proofs.Common.{arith, rules}
+use Rattle.runner.proofs.Filled.{fill_start, fill_more, fill_end}
 use Rattle.runner.proofs.store.pairs_of.Goals as goal
 
 pub loop-n-init : goal.loop-n-init

@@ -1,5 +1,4 @@
 use Rattle.runner.proofs.StoreRows.{odds_masks, go_masks, store_made}
-use Rattle.std.proofs.Common.{rules}
 use Rattle.runner.proofs.store.store.Goals as goal
 
 pub store_by_mod-requires : goal.store_by_mod-requires

@@ -1,5 +1,4 @@
 use Rattle.runner.proofs.StoreRows.{low_mod}
-use Rattle.std.proofs.Common.{rules}
 use Rattle.runner.proofs.store.store_by_mod.Goals as goal
 
 pub returns-in-2 : goal.returns-in-2

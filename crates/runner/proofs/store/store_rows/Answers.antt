@@ -1,7 +1,6 @@
-use Rattle.std.proofs.Common.{◌-◌, ◌*◌, ◌/◌, ◌≤◌, arith, rules}
-use Rattle.runner.proofs.Dsts.{own_cell, Celled, cell_start, cell_end}
+use Rattle.std.proofs.Common.{arith, rules}
+use Rattle.runner.proofs.Dsts.{cell_start, cell_end}
 use Rattle.runner.proofs.StoreRows.{store_turn}
-use Rattle.runner.specs.PrivateStore.{stored_by}
 use Rattle.runner.proofs.store.store_rows.Goals as goal
 
 pub pairs_of-old-requires : goal.pairs_of-old-requires

@@ -1,6 +1,5 @@
-use Rattle.std.proofs.Common.{◌-◌, ◌*◌, ◌/◌, ◌≤◌, arith, rules}
-use Rattle.runner.proofs.Dsts.{own_cell, Celled, cell_start, cell_end}
-use Rattle.runner.proofs.StoreRows.{store_turn}
+use Rattle.std.proofs.Common.{◌-◌, ◌*◌, ◌/◌, ◌≤◌}
+use Rattle.runner.proofs.Dsts.{own_cell, Celled}
 use Rattle.runner.specs.PrivateStore.{stored_by}
 use Rattle.runner.proofs.store.store_rows.Given as goal
 

@@ -1,6 +1,6 @@
 use Rattle.runner.proofs.Counts.{room_less}
 use Rattle.runner.proofs.SwapRows.{room_exchanged, room_to, all_counted}
-use Rattle.std.proofs.Common.{arith, rules}
+use Rattle.std.proofs.Common.{arith}
 use Rattle.runner.proofs.swap.count_swaps.Goals as goal
 
 pub count_exchanges-requires : goal.count_exchanges-requires

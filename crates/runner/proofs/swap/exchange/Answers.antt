@@ -1,9 +1,6 @@
-use Rattle.std.proofs.Common.{ℕ, ◌+◌, ◌-◌, sym, ◌∙◌, arith, rules}
-use Rattle.lane.specs.Words.{Lane}
-use Rattle.runner.proofs.Lanes.{Turned, turn_start, turned_length, turn_more, turn_end}
+use Rattle.std.proofs.Common.{sym, ◌∙◌, arith}
+use Rattle.runner.proofs.Lanes.{turn_start, turned_length, turn_more, turn_end}
 use Rattle.runner.proofs.SwapRows.{exchange_in}
-use Rattle.runner.specs.PrivateRows.{marked}
-use Rattle.runner.specs.PrivateSwap.{exchanged}
 use Rattle.runner.proofs.swap.exchange.Goals as goal
 
 pub loop-n-init : goal.loop-n-init

@@ -1,7 +1,6 @@
-use Rattle.std.proofs.Common.{ℕ, ◌+◌, ◌-◌, sym, ◌∙◌, arith, rules}
+use Rattle.std.proofs.Common.{ℕ, ◌+◌, ◌-◌}
 use Rattle.lane.specs.Words.{Lane}
-use Rattle.runner.proofs.Lanes.{Turned, turn_start, turned_length, turn_more, turn_end}
-use Rattle.runner.proofs.SwapRows.{exchange_in}
+use Rattle.runner.proofs.Lanes.{Turned}
 use Rattle.runner.specs.PrivateRows.{marked}
 use Rattle.runner.specs.PrivateSwap.{exchanged}
 use Rattle.runner.proofs.swap.exchange.Given as goal

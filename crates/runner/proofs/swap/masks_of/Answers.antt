@@ -1,6 +1,6 @@
 use Rattle.lane.proofs.Masks.{mask_is}
 use Rattle.runner.proofs.SwapRows.{rows_always, rows_by_lem}
-use Rattle.std.proofs.Common.{true, false, eqb, sym, refl, ◌∙◌, rules, le-ltb, lt-ltb, eq-eqb, ne_eqb}
+use Rattle.std.proofs.Common.{true, false, eqb, sym, refl, ◌∙◌, le-ltb, lt-ltb, eq-eqb, ne_eqb}
 use Rattle.runner.proofs.swap.masks_of.Goals as goal
 
 pub returns-then-i-eq0 : goal.returns-then-i-eq0

@@ -1,5 +1,5 @@
 use Rattle.runner.proofs.SwapRows.{both_low, first_low, second_low, none_low}
-use Rattle.std.proofs.Common.{arith, rules}
+use Rattle.std.proofs.Common.{arith}
 use Rattle.runner.proofs.swap.store_both.Goals as goal
 
 pub exchange-requires : goal.exchange-requires

@@ -1,9 +1,6 @@
-use Rattle.std.proofs.Common.{ℕ, ◌+◌, ◌-◌, get_or, sym, ◌∙◌, arith, rules}
-use Rattle.lane.specs.Words.{Lane}
-use Rattle.runner.proofs.Lanes.{Turned, turn_start, turned_length, turn_more, turn_end}
+use Rattle.std.proofs.Common.{sym, ◌∙◌, arith}
+use Rattle.runner.proofs.Lanes.{turn_start, turned_length, turn_more, turn_end}
 use Rattle.runner.proofs.SwapRows.{store_in}
-use Rattle.runner.specs.PrivateRows.{marked}
-use Rattle.runner.specs.PrivateSwap.{stored_under}
 use Rattle.runner.proofs.swap.store_part.Goals as goal
 
 pub loop-n-init : goal.loop-n-init

@@ -1,5 +1,5 @@
 use Rattle.runner.proofs.SwapRows.{are_masks, swap_made, swap_same, differ, exchange_skipped}
-use Rattle.std.proofs.Common.{◌∙◌, arith, rules}
+use Rattle.std.proofs.Common.{◌∙◌, arith}
 use Rattle.runner.proofs.swap.store_swaps.Goals as goal
 
 pub returns-then-i : goal.returns-then-i

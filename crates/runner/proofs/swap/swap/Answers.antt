@@ -1,5 +1,4 @@
 use Rattle.runner.proofs.SwapRows.{are_masks, swap_enabled, swap_counted}
-use Rattle.std.proofs.Common.{rules}
 use Rattle.runner.proofs.swap.swap.Goals as goal
 
 pub count_ties-requires : goal.count_ties-requires

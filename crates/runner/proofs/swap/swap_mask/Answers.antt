@@ -1,6 +1,6 @@
 use Rattle.lane.specs.Words.{bit}
 use Rattle.runner.proofs.SwapRows.{mask_made}
-use Rattle.std.proofs.Common.{◌||◌, rules}
+use Rattle.std.proofs.Common.{◌||◌}
 use Rattle.runner.proofs.swap.swap_mask.Goals as goal
 
 pub returns : goal.returns

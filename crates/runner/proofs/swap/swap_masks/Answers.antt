@@ -1,7 +1,7 @@
-use Rattle.std.proofs.Common.{ℕ, ◌-◌, get_or, sym, ◌∙◌, arith, length-set, rules}
+use Rattle.std.proofs.Common.{ℕ, get_or, sym, ◌∙◌, arith, length-set}
 use Rattle.lane.specs.Words.{bit, enabled}
 use Rattle.runner.proofs.Filled.{spread_end}
-use Rattle.runner.proofs.SwapRows.{Marked, marked_start, marked_first, masks_more, NoneSeen, none_start, none_more, none_end}
+use Rattle.runner.proofs.SwapRows.{marked_start, marked_first, masks_more, none_start, none_more, none_end}
 use Rattle.runner.specs.Image.{lane_in}
 use Rattle.runner.specs.PrivateSwap.{swaps_by, mask_rows}
 use Rattle.runner.proofs.swap.swap_masks.Goals as goal

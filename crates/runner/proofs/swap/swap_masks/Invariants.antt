@@ -1,9 +1,8 @@
-use Rattle.std.proofs.Common.{ℕ, ◌-◌, get_or, sym, ◌∙◌, arith, length-set, rules}
+use Rattle.std.proofs.Common.{ℕ, ◌-◌, get_or}
 use Rattle.lane.specs.Words.{bit, enabled}
-use Rattle.runner.proofs.Filled.{spread_end}
-use Rattle.runner.proofs.SwapRows.{Marked, marked_start, marked_first, masks_more, NoneSeen, none_start, none_more, none_end}
+use Rattle.runner.proofs.SwapRows.{Marked, NoneSeen}
 use Rattle.runner.specs.Image.{lane_in}
-use Rattle.runner.specs.PrivateSwap.{swaps_by, mask_rows}
+use Rattle.runner.specs.PrivateSwap.{swaps_by}
 use Rattle.runner.proofs.swap.swap_masks.Given as goal
 
 abbrev pub invariant-loop-n : goal.invariant-loop-n

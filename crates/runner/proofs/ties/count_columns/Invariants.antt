@@ -1,6 +1,6 @@
-use Rattle.std.proofs.Common.{ℕ, ◌-◌, get_or, sym, ◌∙◌, arith, rules}
+use Rattle.std.proofs.Common.{ℕ, ◌-◌, get_or}
 use Rattle.lane.specs.Words.{flag_of}
-use Rattle.runner.proofs.Counts.{Counting, counting_start, counting_more, counting_end, column_sum, room_kept, flag_le}
+use Rattle.runner.proofs.Counts.{Counting}
 use Rattle.runner.specs.Image.{lane_in}
 use Rattle.runner.specs.PrivateSwap.{tied_by}
 use Rattle.runner.proofs.ties.count_columns.Given as goal

@@ -1,5 +1,5 @@
 use Rattle.runner.proofs.Counts.{tied_rows, tied_none}
-use Rattle.std.proofs.Common.{sym, rules, le-ltb, lt-ltb}
+use Rattle.std.proofs.Common.{sym, le-ltb, lt-ltb}
 use Rattle.runner.proofs.ties.count_ties.Goals as goal
 
 pub count_columns-requires : goal.count_columns-requires

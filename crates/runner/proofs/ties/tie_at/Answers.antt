@@ -1,4 +1,4 @@
-use Rattle.std.proofs.Common.{arith, rules}
+use Rattle.std.proofs.Common.{arith}
 use Rattle.runner.proofs.ties.tie_at.Goals as goal
 
 pub word_at-config-requires : goal.word_at-config-requires

@@ -1,5 +1,4 @@
 use Rattle.runner.proofs.Counts.{tie_made}
-use Rattle.std.proofs.Common.{rules}
 use Rattle.runner.proofs.ties.tie_flag.Goals as goal
 
 pub returns : goal.returns

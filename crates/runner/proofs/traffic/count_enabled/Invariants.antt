@@ -1,7 +1,6 @@
-use Rattle.std.proofs.Common.{ℕ, ◌+◌, ◌-◌, get_or, sym, ◌∙◌, arith, rules}
-use Rattle.runner.proofs.Counts.{Counting, counting_start, counting_more, counting_end, column_sum, room_kept}
-use Rattle.runner.proofs.Tallied.{weighed, first_mask}
-use lib.Bits.{bit_and, and_le_r}
+use Rattle.std.proofs.Common.{ℕ, ◌+◌, ◌-◌, get_or}
+use Rattle.runner.proofs.Counts.{Counting}
+use lib.Bits.{bit_and}
 use Rattle.runner.proofs.traffic.count_enabled.Given as goal
 
 abbrev pub invariant-loop-j : goal.invariant-loop-j

@@ -1,7 +1,6 @@
-use Rattle.std.proofs.Common.{ℕ, ◌+◌, ◌-◌, ◌*◌, sym, ◌∙◌, arith, rules}
+use Rattle.std.proofs.Common.{ℕ, ◌+◌, ◌-◌, ◌*◌}
 use Rattle.lane.specs.Words.{flag_of}
-use Rattle.runner.proofs.Counts.{Counting, counting_start, counting_more, counting_end, room_kept}
-use Rattle.runner.proofs.Tallied.{told, column_few, each_column}
+use Rattle.runner.proofs.Counts.{Counting}
 use Rattle.runner.specs.PrivateRows.{marked}
 use Rattle.runner.proofs.traffic.count_marked.Given as goal
 

@@ -1,4 +1,4 @@
-use Rattle.std.proofs.Common.{ℕ, ◌+◌, get_or, ap, ◌∙◌, add_assoc, arith, rules}
+use Rattle.std.proofs.Common.{ℕ, ◌+◌, get_or, ap, ◌∙◌, add_assoc, arith}
 use Rattle.runner.proofs.Tallied.{four_less}
 use Rattle.runner.proofs.traffic.marked_in.Goals as goal
 

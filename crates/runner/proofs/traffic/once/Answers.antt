@@ -1,5 +1,4 @@
 use Rattle.lane.proofs.Cases.{byte_is}
-use Rattle.std.proofs.Common.{rules}
 use Rattle.runner.proofs.traffic.once.Goals as goal
 
 pub returns : goal.returns

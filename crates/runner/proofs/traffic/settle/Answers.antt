@@ -1,4 +1,4 @@
-use Rattle.std.proofs.Common.{ℕ, ◌+◌, ◌*◌, ltb, ap, ◌∙◌, arith, rules}
+use Rattle.std.proofs.Common.{ℕ, ◌+◌, ◌*◌, ltb, ap, ◌∙◌, arith}
 use Rattle.lane.proofs.Counted.{flag_small}
 use Rattle.runner.proofs.Counts.{room_less}
 use Rattle.runner.specs.PrivateSteps.{counted, times}

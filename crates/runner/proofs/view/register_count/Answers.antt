@@ -1,4 +1,3 @@
-use Rattle.std.proofs.Common.{rules}
 use Rattle.runner.proofs.Views.{some_count, no_count}
 use Rattle.runner.proofs.view.register_count.Goals as goal
 

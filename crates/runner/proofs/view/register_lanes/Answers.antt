@@ -1,4 +1,4 @@
-use Rattle.std.proofs.Common.{ℕ, length, ap, arith, rules}
+use Rattle.std.proofs.Common.{ℕ, length, ap, arith}
 use Rattle.runner.specs.Image.{view_pointer}
 use Rattle.runner.proofs.Views.{part_within, part_small, part_view}
 use Rattle.runner.proofs.view.register_lanes.Goals as goal

@@ -1,4 +1,3 @@
-use Rattle.std.proofs.Common.{rules}
 use Rattle.runner.proofs.Views.{low_start, high_start, no_start}
 use Rattle.runner.proofs.view.register_start.Goals as goal
 

@@ -1,6 +1,6 @@
 use Rattle.runner.proofs.Walks.{lent_given, last_given, back_good, called_done, called_refused, back_made}
 use Rattle.runner.specs.Walk.{standing, back, moved}
-use Rattle.std.proofs.Common.{sym, ◌∙◌, arith, rules}
+use Rattle.std.proofs.Common.{sym, ◌∙◌, arith}
 use Rattle.runner.proofs.walk.back.Goals as goal
 
 pub returns-then-lent-ne0 : goal.returns-then-lent-ne0

@@ -1,5 +1,4 @@
 use Rattle.runner.specs.Walk.{begun}
-use Rattle.std.proofs.Common.{rules}
 use Rattle.runner.proofs.walk.begin.Goals as goal
 
 pub returns : goal.returns

@@ -1,6 +1,6 @@
 use Rattle.lane.proofs.Cases.{if_eq, if_ne}
 use Rattle.runner.specs.Walk.{dst_back}
-use Rattle.std.proofs.Common.{refl, rules}
+use Rattle.std.proofs.Common.{refl}
 use Rattle.runner.proofs.walk.bring_cells.Goals as goal
 
 pub returns-then-op-eq16 : goal.returns-then-op-eq16

@@ -1,6 +1,6 @@
 use Rattle.runner.proofs.Walks.{lent_given, next_given, forward_good, called_done, called_refused}
 use Rattle.runner.specs.Walk.{standing, forward, moved}
-use Rattle.std.proofs.Common.{sym, ◌∙◌, arith, rules}
+use Rattle.std.proofs.Common.{sym, ◌∙◌, arith}
 use Rattle.runner.proofs.walk.forward.Goals as goal
 
 pub returns-then-lent-ne0 : goal.returns-then-lent-ne0

@@ -1,5 +1,4 @@
 use Rattle.runner.proofs.Walks.{entry_kept}
-use Rattle.std.proofs.Common.{rules}
 use Rattle.runner.proofs.walk.keep.Goals as goal
 
 pub returns : goal.returns

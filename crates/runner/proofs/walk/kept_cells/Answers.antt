@@ -1,6 +1,5 @@
 use Rattle.lane.specs.Words.{build}
 use Rattle.runner.proofs.Walks.{kept_store, kept_none}
-use Rattle.std.proofs.Common.{rules}
 use Rattle.runner.proofs.walk.kept_cells.Goals as goal
 
 pub returns-then-op-eq16 : goal.returns-then-op-eq16

@@ -1,7 +1,7 @@
 use Rattle.lane.proofs.Cases.{if_true, if_false}
 use Rattle.lane.specs.Refusals.{pass}
 use Rattle.runner.specs.Walk.{last_answer}
-use Rattle.std.proofs.Common.{refl, rules}
+use Rattle.std.proofs.Common.{refl}
 use Rattle.runner.proofs.walk.last_answer.Goals as goal
 
 pub returns-then-k-list : goal.returns-then-k-list

@@ -1,7 +1,7 @@
 use Rattle.lane.proofs.Cases.{if_eq, if_ne, if_lt, if_ge}
 use Rattle.lane.specs.Refusals.{pass}
 use Rattle.runner.specs.Walk.{lent_answer}
-use Rattle.std.proofs.Common.{refl, rules}
+use Rattle.std.proofs.Common.{refl}
 use Rattle.runner.proofs.walk.lent_answer.Goals as goal
 
 pub returns-then-image-ne768 : goal.returns-then-image-ne768

@@ -1,4 +1,4 @@
-use Rattle.std.proofs.Common.{◌/◌, length, refl, arith, rules}
+use Rattle.std.proofs.Common.{◌/◌, length, refl, arith}
 use Rattle.lane.proofs.Cases.{if_true, if_false}
 use Rattle.lane.specs.Refusals.{pass}
 use Rattle.runner.proofs.Walks.{under}

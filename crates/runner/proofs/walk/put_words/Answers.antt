@@ -1,6 +1,6 @@
-use Rattle.std.proofs.Common.{◌≡◌, ◌-◌, ◌≤◌, length, arith, rules}
+use Rattle.std.proofs.Common.{arith}
 use Rattle.runner.proofs.Walks.{put_long, put_more, put_end}
-use lib.Seq.{paste, paste-zero}
+use lib.Seq.{paste-zero}
 use Rattle.runner.proofs.walk.put_words.Goals as goal
 
 pub loop-n-init : goal.loop-n-init

@@ -1,6 +1,5 @@
-use Rattle.std.proofs.Common.{◌≡◌, ◌-◌, ◌≤◌, length, arith, rules}
-use Rattle.runner.proofs.Walks.{put_long, put_more, put_end}
-use lib.Seq.{paste, paste-zero}
+use Rattle.std.proofs.Common.{◌≡◌, ◌-◌, ◌≤◌, length}
+use lib.Seq.{paste}
 use Rattle.runner.proofs.walk.put_words.Given as goal
 
 abbrev pub invariant-loop-n : goal.invariant-loop-n

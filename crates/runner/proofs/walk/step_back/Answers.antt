@@ -1,6 +1,6 @@
 use Rattle.runner.proofs.Walks.{entry_part}
 use Rattle.runner.specs.Checks.{insn_at}
-use Rattle.std.proofs.Common.{◌∙◌, rules}
+use Rattle.std.proofs.Common.{◌∙◌}
 use Rattle.runner.proofs.walk.step_back.Goals as goal
 
 pub returns : goal.returns

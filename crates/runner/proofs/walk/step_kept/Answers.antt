@@ -1,5 +1,4 @@
 use Rattle.runner.proofs.Walks.{step_made}
-use Rattle.std.proofs.Common.{rules}
 use Rattle.runner.proofs.walk.step_kept.Goals as goal
 
 pub returns : goal.returns
