@@ -1,4 +1,4 @@
-use Rattle.vectors.proofs.main.Given as goal
+use Rattle.vectors.proofs.run_cases.Given as goal
 
 abbrev pub invariant-loop-left : goal.invariant-loop-left
 invariant-loop-left l = Unit {0}
