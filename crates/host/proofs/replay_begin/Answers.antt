@@ -3,7 +3,6 @@ use Rattle.lane.proofs.Cases.{if_eq, if_ne}
 use Rattle.listing.specs.Listing.{settings_of}
 use Rattle.host.specs.Words.{begun_words, walk_begun}
 use Rattle.host.proofs.Told.{told-begin}
-use borrow.Author.Rules.{rules}
 use Rattle.host.proofs.replay_begin.Goals as goal
 
 pub returns-then-answer-eq0 : goal.returns-then-answer-eq0

@@ -2,7 +2,6 @@ use lib.ListN.{get_or}
 use Rattle.host.specs.Words.{insn_of, cells_words}
 use Rattle.listing.specs.Listing.{settings_of}
 use Rattle.host.proofs.Told.{told-lane}
-use borrow.Author.Rules.{rules}
 use Rattle.host.proofs.replay_lane.Goals as goal
 
 pub returns : goal.returns

@@ -1,7 +1,6 @@
 use lib.ListN.{length}
 use Rattle.listing.specs.Program.{output}
 use Rattle.host.proofs.Told.{told-report}
-use borrow.Author.Rules.{rules}
 use Rattle.host.proofs.replay_report.Goals as goal
 
 pub returns : goal.returns

@@ -1,6 +1,5 @@
 use Rattle.listing.specs.Listing.{settings_of}
 use Rattle.host.proofs.Told.{told-run}
-use borrow.Author.Rules.{rules}
 use Rattle.host.proofs.replay_run.Goals as goal
 
 pub returns : goal.returns

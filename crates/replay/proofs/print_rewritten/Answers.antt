@@ -1,7 +1,6 @@
 use lib.Seq.{length-take-le}
 use mathlib.Core.Path.{sym}
 use Rattle.listing.proofs.Reports.{reports_within}
-use borrow.Author.Rules.{rules}
 use Rattle.replay.proofs.print_rewritten.Goals as goal
 
 pub slice_bounds-room-end : goal.slice_bounds-room-end

@@ -4,7 +4,7 @@ use lib.Seq.{length-take-le}
 use mathlib.Core.List.{List}
 use mathlib.Core.Path.{◌≡◌, sym}
 use native.Mathlib.Omega.{arith}
-use Rattle.io.specs.Counts.{IsPrefixLen}
+use Rattle.replay.specs.Input.{IsPrefixLen}
 use Rattle.replay.proofs.input.read_all.Goals as goal
 
 counted : (n : ℕ) (bytes : List ℕ) → n ≤ length bytes → IsPrefixLen n bytes

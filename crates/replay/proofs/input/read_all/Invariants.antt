@@ -4,7 +4,7 @@ use lib.Seq.{length-take-le}
 use mathlib.Core.List.{List}
 use mathlib.Core.Path.{◌≡◌, sym}
 use native.Mathlib.Omega.{arith}
-use Rattle.io.specs.Counts.{IsPrefixLen}
+use Rattle.replay.specs.Input.{IsPrefixLen}
 use Rattle.replay.proofs.input.read_all.Given as goal
 
 abbrev pub invariant-loop-done : goal.invariant-loop-done

@@ -4,9 +4,6 @@ use Prim.Native.Nat.{◌≤◌, ◌-◌}
 use lib.ListN.{length, length-set}
 use mathlib.Core.Path.{◌≡◌, refl}
 use native.Mathlib.Omega.{arith}
-use borrow.Author.Rules.{rules}
-use Rattle.vectors.proofs.made.put_change.Statement.{statement}
-use Rattle.vectors.proofs.made.put_change.Tie as tie
 
 pub overflow_add-end : goal.overflow_add-end
 overflow_add-end c = omega (arith, c.at_most.ensures.0, c.place-first.ensures)

@@ -1,11 +1,8 @@
 use Rattle.vectors.proofs.run_case.run_lent.Goals as goal
 -- `run_lent`: each part is as long as it says.
 use lib.ListN.{length}
-use borrow.Author.Rules.{rules}
 use mathlib.Core.Path.{sym}
 use lib.Seq.{length-take-le}
-use Rattle.vectors.proofs.run_case.run_lent.Statement.{statement}
-use Rattle.vectors.proofs.run_case.run_lent.Tie as tie
 
 pub slice_bounds-run_and_print-end-2 : goal.slice_bounds-run_and_print-end-2
 slice_bounds-run_and_print-end-2 c = sym (length-take-le _ _ c.place-image_length.ensures)

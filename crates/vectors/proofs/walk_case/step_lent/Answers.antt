@@ -2,9 +2,6 @@ use Rattle.vectors.proofs.walk_case.step_lent.Goals as goal
 -- `step_lent`: each part is as long as it says.
 use mathlib.Core.Path.{sym}
 use lib.Seq.{length-take-le}
-use borrow.Author.Rules.{rules}
-use Rattle.vectors.proofs.walk_case.step_lent.Statement.{statement}
-use Rattle.vectors.proofs.walk_case.step_lent.Tie as tie
 
 pub slice_bounds-step_and_sum-end-2 : goal.slice_bounds-step_and_sum-end-2
 slice_bounds-step_and_sum-end-2 c = sym (length-take-le _ _ c.at_most-image_length.ensures.0)
