@@ -7,6 +7,7 @@ use Rattle.host.proofs.replay_lane.Goals as goal
 pub returns : goal.returns
 unfolding cells_words
 returns c =
+    let t =
     told-lane
     c.settings_of.result
     (settings_of c.args.settings.now)
@@ -20,4 +21,5 @@ returns c =
     c.step_lane-stepped.result
     c.settings_of.ensures
     c.insn_of.ensures
-    c.step_lane-stepped.ensures
+    c.step_lane-stepped.ensures in
+    record { value = t.0; own_after = t.1.0; cells_after = t.1.1 }

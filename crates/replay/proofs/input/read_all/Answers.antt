@@ -11,7 +11,7 @@ counted : (n : ℕ) (bytes : List ℕ) → n ≤ length bytes → IsPrefixLen n 
 counted n bytes h = (h, sym (length-take-le n bytes h))
 
 pub returns-then-next-eq0 : goal.returns-then-next-eq0
-returns-then-next-eq0 c = counted _ _ (omega arith)
+returns-then-next-eq0 g c = counted _ _ (omega arith)
 
 pub returns : goal.returns
-returns c = counted _ _ (omega arith)
+returns g c = counted _ _ (omega arith)

@@ -5,7 +5,7 @@ use mathlib.Core.Path.{sym}
 use lib.Seq.{length-take-le}
 
 pub slice_bounds-read_and_print-end : goal.slice_bounds-read_and_print-end
-slice_bounds-read_and_print-end c = sym (length-take-le _ _ c.place-text_length.ensures)
+slice_bounds-read_and_print-end g c = sym (length-take-le _ _ c.place-text_length.ensures)
 
 pub slice_bounds-read_and_print-end-3 : goal.slice_bounds-read_and_print-end-3
-slice_bounds-read_and_print-end-3 c = sym (length-take-le _ _ c.place-list_length.ensures)
+slice_bounds-read_and_print-end-3 g c = sym (length-take-le _ _ c.place-list_length.ensures)
