@@ -33,8 +33,8 @@ use writing_case::writing_case;
 
 // How much of a room is lent: never more than it has.
 fn at_most(length: usize, most: usize) -> usize
-    ensures upper_bound { result ≤ most }
-    ensures upper_bound_2 { result ≤ length }
+    ensures within_room { result ≤ most }
+    ensures within_length { result ≤ length }
 {
     if length < most { length } else { most }
 }

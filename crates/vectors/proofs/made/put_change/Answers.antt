@@ -6,10 +6,10 @@ use mathlib.Core.Path.{◌≡◌, refl}
 use native.Mathlib.Omega.{arith}
 
 pub overflow_add-end : goal.overflow_add-end
-overflow_add-end g c = omega (arith, c.at_most.ensures.0, c.place-first.ensures)
+overflow_add-end g c = omega (arith, c.at_most.ensures.within_room, c.place-first.ensures)
 
 pub loop-at-init : goal.loop-at-init
-loop-at-init g c = (omega (arith, c.at_most.ensures.1, c.place-first.ensures, c.at_most.ensures.0), refl)
+loop-at-init g c = (omega (arith, c.at_most.ensures.within_length, c.place-first.ensures, c.at_most.ensures.within_room), refl)
 
 pub bounds-words-at : goal.bounds-words-at
 bounds-words-at g c = omega (arith, c.loop-at-test.true, c.loop-at.invariant.0, c.loop-at.invariant.1)

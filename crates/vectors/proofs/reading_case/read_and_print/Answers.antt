@@ -6,8 +6,8 @@ use Rattle.host.specs.Words.{reading_words, settings_words}
 
 pub slice_bounds-print-end : goal.slice_bounds-print-end
 unfolding reading_words
-slice_bounds-print-end g c = sym (ap length c.replay_read.ensures.1.1.0)
+slice_bounds-print-end g c = sym (ap length c.replay_read.ensures.outcome_after)
 
 pub slice_bounds-checksum-end : goal.slice_bounds-checksum-end
 unfolding settings_words
-slice_bounds-checksum-end g c = sym (ap length c.replay_read.ensures.1.0)
+slice_bounds-checksum-end g c = sym (ap length c.replay_read.ensures.settings_after)

@@ -5,4 +5,4 @@ use lib.ListN.{length}
 use Rattle.host.proofs.Lengths.{twenty_words}
 
 pub slice_bounds-print-end : goal.slice_bounds-print-end
-slice_bounds-print-end g c = sym (ap length c.replay_run.ensures.1.0 ∙ twenty_words _ _ _ _)
+slice_bounds-print-end g c = sym (ap length c.replay_run.ensures.outcome_after ∙ twenty_words _ _ _ _)

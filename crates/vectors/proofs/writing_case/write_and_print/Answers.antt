@@ -6,4 +6,4 @@ use Rattle.host.specs.Words.{writing_words}
 
 pub slice_bounds-print-end : goal.slice_bounds-print-end
 unfolding writing_words
-slice_bounds-print-end g c = sym (ap length c.replay_write.ensures.1.0)
+slice_bounds-print-end g c = sym (ap length c.replay_write.ensures.outcome_after)
