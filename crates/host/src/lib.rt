@@ -93,7 +93,8 @@ pub fn replay_begin(
     let answer = b.answer;
     let w = b.walk;
     *outcome = [answer, 0, b.place, w.cursor];
-    if answer == 0 {
+    let accepted = answer == 0;
+    if accepted {
         *walk = [w.at, w.cursor];
         return answer;
     }
