@@ -1,4 +1,5 @@
-// The replay for C and Rust hosts: what a host lends is laid out in words, and each function answers by the layers below.
+// The replay for hosts: what a host lends is laid out in words, and each function answers by the layers below. Hosts in C have these functions by
+// crates/host_c.
 //
 // Every function here is total: it has a promise that settles its answer and every lent word, and no `requires`.
 
@@ -42,8 +43,7 @@ fn insn_of(words: &[u32; 6]) -> Insn
 
 // A run of a list over an image and a Dst: a refusal leaves both as they were. The answer is returned, and stands first in `outcome`; the ties of the
 // columns, and then their stores, stand last.
-#[unsafe(no_mangle)]
-pub extern "C" fn replay_run(
+pub fn replay_run(
     settings: &[u32; 8],
     image: &mut [u32],
     dst: &mut [u16],
@@ -77,8 +77,7 @@ fn walk_of(words: &[u32; 2]) -> Walk
 }
 
 // The start of a walk over a list: the checks of a run, and no step done. A refusal leaves `walk` as it was.
-#[unsafe(no_mangle)]
-pub extern "C" fn replay_begin(
+pub fn replay_begin(
     settings: &[u32; 8],
     image: &[u32],
     dst: &[u16],
@@ -94,7 +93,8 @@ pub extern "C" fn replay_begin(
     let answer = b.answer;
     let w = b.walk;
     *outcome = [answer, 0, b.place, w.cursor];
-    if answer == 0 {
+    let accepted = answer == 0;
+    if accepted {
         *walk = [w.at, w.cursor];
         return answer;
     }
@@ -102,8 +102,7 @@ pub extern "C" fn replay_begin(
 }
 
 // A step forward, its entry kept in `store`: a refusal leaves all that is lent as it was.
-#[unsafe(no_mangle)]
-pub extern "C" fn replay_forward(
+pub fn replay_forward(
     settings: &[u32; 8],
     image: &mut [u32],
     dst: &mut [u16],
@@ -127,8 +126,7 @@ pub extern "C" fn replay_forward(
 }
 
 // A step back, by its entry in `store`: a refusal leaves all that is lent as it was.
-#[unsafe(no_mangle)]
-pub extern "C" fn replay_back(
+pub fn replay_back(
     settings: &[u32; 8],
     image: &mut [u32],
     dst: &mut [u16],
@@ -152,8 +150,7 @@ pub extern "C" fn replay_back(
 }
 
 // One instruction in one lane, by the lane rules: a refusal leaves the lane's words and its two cells, even and odd, as they were.
-#[unsafe(no_mangle)]
-pub extern "C" fn replay_lane(
+pub fn replay_lane(
     settings: &[u32; 8],
     lane: u32,
     insn: &[u32; 6],
@@ -182,8 +179,7 @@ pub extern "C" fn replay_lane(
 }
 
 // A listing read: its settings, and its list in front of the lent room.
-#[unsafe(no_mangle)]
-pub extern "C" fn replay_read(
+pub fn replay_read(
     text: &[u8],
     list: &mut [u32],
     settings: &mut [u32; 8],
@@ -210,8 +206,7 @@ pub extern "C" fn replay_read(
 }
 
 // Settings and a list written as a listing, in front of the lent room.
-#[unsafe(no_mangle)]
-pub extern "C" fn replay_write(
+pub fn replay_write(
     settings: &[u32; 8],
     list: &[u32],
     text: &mut [u8],
@@ -233,8 +228,7 @@ pub extern "C" fn replay_write(
 }
 
 // The program's whole output for a listing, in front of the lent room; `taken` is how many bytes it takes there.
-#[unsafe(no_mangle)]
-pub extern "C" fn replay_report(text: &[u8], room: &mut [u8], taken: &mut usize) -> u32
+pub fn replay_report(text: &[u8], room: &mut [u8], taken: &mut usize) -> u32
     ensures value { result ≡ (reporting (length room.old) (output text.now)).answer }
     ensures taken_after { taken.new ≡ (reporting (length room.old) (output text.now)).length }
     ensures room_after { room.new ≡ in_front (reported (length room.old) (output text.now).bytes) room.old }
@@ -245,24 +239,21 @@ pub extern "C" fn replay_report(text: &[u8], room: &mut [u8], taken: &mut usize)
 }
 
 // Where a register's words start in an image of `size` words.
-#[unsafe(no_mangle)]
-pub extern "C" fn replay_register_start(size: usize, register: u32) -> usize
+pub fn replay_register_start(size: usize, register: u32) -> usize
     ensures { result ≡ register_start size register }
 {
     register_start(size, register)
 }
 
 // How many words a register has in an image of `size` words: one for each lane, or none.
-#[unsafe(no_mangle)]
-pub extern "C" fn replay_register_count(size: usize, register: u32) -> usize
+pub fn replay_register_count(size: usize, register: u32) -> usize
     ensures { result ≡ register_count size register }
 {
     register_count(size, register)
 }
 
 // What this library replays: a host compares it with the number that it was compiled with.
-#[unsafe(no_mangle)]
-pub extern "C" fn replay_version() -> u32
+pub fn replay_version() -> u32
     ensures { result ≡ version }
 {
     VERSION

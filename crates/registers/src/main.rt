@@ -7,8 +7,8 @@ ghost use Rattle.std.specs.Prelude.{◌≡◌, get_or};
 ghost use Rattle.runner.specs.Image.{view};
 ghost use Rattle.registers.specs.Put.{with_lane};
 
-use libc::STDOUT_FILENO;
 use runner::view::{register_count, register_lanes, register_lanes_mut, register_start};
+use std::io;
 
 // Writes a word to a lane of a register, where there is one: the register's part is lent here, so that its words are known afterwards.
 fn put(image: &mut [u32], r: u32, lane: usize, word: u32)
@@ -38,19 +38,18 @@ fn put_through(image: &mut [u32], r: u32, lane: usize, word: u32) {
     }
 }
 
-fn line(n: u32) {
-    io::print_decimal(STDOUT_FILENO, n as u64);
-    io::write_all(STDOUT_FILENO, b"\n");
+fn line<P: Print>(rt: &P, n: u32) -> io::Result<()> {
+    println!(rt; "{n}")
 }
 
-fn main() {
+fn main(rt: HostRuntime) -> io::Result<()> {
     let mut image = [0u32; 768];
     put(&mut image, 11, 3, 5);
     put(&mut image, 8, 3, 7);
     put_through(&mut image, 11, 4, 6);
     // Register 11 is slot 8: its lanes 3 and 4 are words 259 and 260.
-    line(get(&image, 11, 3));
-    line(image[259]);
-    line(image[260]);
-    line(get(&image, 8, 3));
+    line(&rt, get(&image, 11, 3))?;
+    line(&rt, image[259])?;
+    line(&rt, image[260])?;
+    line(&rt, get(&image, 8, 3))
 }

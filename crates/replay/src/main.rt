@@ -1,21 +1,25 @@
 // The program: a listing on standard input, the report on standard output; or, with the argument --rewrite, the same listing in the format that
 // is written, and a report only where it is refused.
 //
-// A program of Rattle has no exit status, so it tells by what it prints: where standard input can't be read there is no report, but a word on
-// standard error. bin/replay takes that for exit 2.
+// It tells by what it prints, and ends with status 0 all the same: where standard input can't be read there is no report, but a word on standard
+// error. bin/replay takes that for exit 2.
 
 #![tactic(auto)]
 
 mod input;
 
-use libc::{STDERR_FILENO, STDIN_FILENO, STDOUT_FILENO};
+use std::rt::Env;
 
 const REWRITE: [u8; 9] = *b"--rewrite";
 
 // Whether the program's argument is that word.
-fn to_rewrite() -> bool {
+fn to_rewrite<E: Env>(rt: &E) -> bool {
     let mut word = [0u8; 9];
-    if os::arg(1, &mut word) != 9 {
+    let length = match rt.arg(1, &mut word) {
+        Ok(n) => n,
+        Err(_) => 0,
+    };
+    if length != 9 {
         return false;
     }
     let mut i: usize = 0;
@@ -28,46 +32,41 @@ fn to_rewrite() -> bool {
     true
 }
 
-fn put(bytes: &[u8]) {
-    if !io::write_all(STDOUT_FILENO, bytes) {
-        io::write_all(
-            STDERR_FILENO,
-            b"can't write: a write to standard output failed\n",
-        );
+// What can't be written to standard error either is not said at all.
+fn put<P: Print + Eprint>(rt: &P, bytes: &[u8]) {
+    if rt.write_all(bytes).is_err() {
+        let _ = rt.eprintln("can't write: a write to standard output failed");
     }
 }
 
 // Replays a listing that was read whole.
-fn print_report(text: &[u8]) {
+fn print_report<P: Print + Eprint>(rt: &P, text: &[u8]) {
     let mut room = [0u8; 11190];
     let printed = listing::program::replay(text, &mut room);
     let length = printed.length;
-    put(&room[..length]);
+    put(rt, &room[..length]);
 }
 
 // Writes it again; 114 bytes for the head, and 45 at most for each of 1,024 lines.
-fn print_rewritten(text: &[u8]) {
+fn print_rewritten<P: Print + Eprint>(rt: &P, text: &[u8]) {
     let mut room = [0u8; 46194];
     let printed = listing::program::rewrite(text, &mut room);
     let length = printed.length;
-    put(&room[..length]);
+    put(rt, &room[..length]);
 }
 
-fn main() {
+fn main(rt: HostRuntime) {
     // One byte more than a listing may have, so that a longer one is seen to be longer and not cut.
     let mut text = [0u8; 65537];
-    let got = input::read_all(STDIN_FILENO, &mut text);
+    let got = input::read_all(&mut rt.stdin(), &mut text);
     let n = got.length;
     if !got.whole {
-        io::write_all(
-            STDERR_FILENO,
-            b"can't read: a read of standard input failed\n",
-        );
+        let _ = rt.eprintln("can't read: a read of standard input failed");
         return;
     }
-    if to_rewrite() {
-        print_rewritten(&text[..n]);
+    if to_rewrite(&rt) {
+        print_rewritten(&rt, &text[..n]);
     } else {
-        print_report(&text[..n]);
+        print_report(&rt, &text[..n]);
     }
 }

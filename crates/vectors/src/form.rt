@@ -2,7 +2,7 @@
 ghost use Rattle.std.specs.Prelude.{◌<◌, ◌≤◌};
 
 use crate::at_most;
-use libc::STDIN_FILENO;
+use std::io::Read;
 
 pub(crate) fn of_byte(byte: u8) -> u32
     ensures { result < 256 }
@@ -10,14 +10,15 @@ pub(crate) fn of_byte(byte: u8) -> u32
     byte as u32
 }
 
-fn next_byte() -> u32
+// A read that fails gives no byte either.
+fn next_byte<R: Read>(input: &mut R) -> u32
     ensures { result < 256 }
 {
     let mut one = [0u8; 1];
-    if io::read_full(STDIN_FILENO, &mut one) == 1 {
-        return of_byte(one[0]);
+    match input.read(&mut one) {
+        Ok(1) => of_byte(one[0]),
+        _ => 0,
     }
-    0
 }
 
 // A number with seven bits more. What would be above its 32 bits is dropped.
@@ -26,11 +27,11 @@ fn with_digit(value: u32, byte: u32) -> u32 {
 }
 
 // A number has seven bits a byte, the highest first; a byte of 128 or more is not its last.
-pub(crate) fn number() -> u32 {
+pub(crate) fn number<R: Read>(input: &mut R) -> u32 {
     let mut value: u32 = 0;
     let mut left: u32 = 5;
     while left > 0 {
-        let byte = next_byte();
+        let byte = next_byte(input);
         value = with_digit(value, byte);
         if byte < 128 {
             return value;
@@ -41,21 +42,21 @@ pub(crate) fn number() -> u32 {
 }
 
 // A number that is a length or a place: never more than there is.
-pub(crate) fn place(most: usize) -> usize
+pub(crate) fn place<R: Read>(input: &mut R, most: usize) -> usize
     ensures { result ≤ most }
 {
-    at_most(number() as usize, most)
+    at_most(number(input) as usize, most)
 }
 
-pub(crate) fn settings() -> [u32; 8] {
+pub(crate) fn settings<R: Read>(input: &mut R) -> [u32; 8] {
     [
-        number(),
-        number(),
-        number(),
-        number(),
-        number(),
-        number(),
-        number(),
-        number(),
+        number(input),
+        number(input),
+        number(input),
+        number(input),
+        number(input),
+        number(input),
+        number(input),
+        number(input),
     ]
 }

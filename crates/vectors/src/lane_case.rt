@@ -3,6 +3,8 @@ use crate::form::{number, settings};
 use crate::lines::{NOTHING, cell_checksum, checksum, print};
 use crate::made::{IMAGE, make_image};
 use host::replay_lane;
+use std::io;
+use std::io::{Read, Write};
 
 // One lane's words, out of an image.
 fn lane_words(image: &[u32; IMAGE], lane: u32) -> [u32; 24] {
@@ -16,35 +18,48 @@ fn lane_words(image: &[u32; IMAGE], lane: u32) -> [u32; 24] {
     words
 }
 
-fn insn() -> [u32; 6] {
-    [number(), number(), number(), number(), number(), number()]
+fn insn<R: Read>(input: &mut R) -> [u32; 6] {
+    [
+        number(input),
+        number(input),
+        number(input),
+        number(input),
+        number(input),
+        number(input),
+    ]
 }
 
-fn cell() -> u16 {
-    (number() % 65536) as u16
+fn cell<R: Read>(input: &mut R) -> u16 {
+    (number(input) % 65536) as u16
 }
 
-fn step_and_print(
+fn step_and_print<W: Write>(
+    out: &mut W,
     settings: &[u32; 8],
     insn: &[u32; 6],
     lane: u32,
     own: &mut [u32; 24],
     head: &[u32; 24],
     cells: &mut [u16; 2],
-) {
+) -> io::Result<()> {
     let answer = replay_lane(settings, lane, insn, own, head, cells);
-    print(2, &[answer], cell_checksum(checksum(NOTHING, own), cells));
+    print(
+        out,
+        2,
+        &[answer],
+        cell_checksum(checksum(NOTHING, own), cells),
+    )
 }
 
 // Settings, the instruction, the image, its lane and the one that stands for row 0's, and its even and its odd cell.
-pub(crate) fn lane_case() {
-    let settings = settings();
-    let insn = insn();
+pub(crate) fn lane_case<R: Read, W: Write>(input: &mut R, out: &mut W) -> io::Result<()> {
+    let settings = settings(input);
+    let insn = insn(input);
     let mut image = [0u32; IMAGE];
-    make_image(&mut image);
-    let lane = number();
+    make_image(input, &mut image);
+    let lane = number(input);
     let mut own = lane_words(&image, lane);
-    let head = lane_words(&image, number());
-    let mut cells = [cell(), cell()];
-    step_and_print(&settings, &insn, lane, &mut own, &head, &mut cells);
+    let head = lane_words(&image, number(input));
+    let mut cells = [cell(input), cell(input)];
+    step_and_print(out, &settings, &insn, lane, &mut own, &head, &mut cells)
 }

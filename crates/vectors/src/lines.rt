@@ -2,7 +2,8 @@
 ghost use Rattle.std.specs.Prelude.{◌<◌};
 
 use crate::form::of_byte;
-use libc::STDOUT_FILENO;
+use std::io;
+use std::io::Write;
 
 // The checksum of nothing.
 pub const NOTHING: u32 = 2166136261;
@@ -57,19 +58,17 @@ pub(crate) fn byte_checksum(bytes: &[u8]) -> u32 {
 }
 
 // A number in decimal, and a space.
-fn print_number(n: u32) {
-    io::print_decimal(STDOUT_FILENO, n as u64);
-    io::write_all(STDOUT_FILENO, b" ");
+fn print_number<W: Write>(out: &mut W, n: u32) -> io::Result<()> {
+    write!(out, "{n} ")
 }
 
-// A line on standard output: the case's kind, the numbers that were answered, and the checksum of what was lent.
-pub(crate) fn print(kind: u32, numbers: &[u32], sum: u32) {
-    print_number(kind);
+// A line: the case's kind, the numbers that were answered, and the checksum of what was lent.
+pub(crate) fn print<W: Write>(out: &mut W, kind: u32, numbers: &[u32], sum: u32) -> io::Result<()> {
+    print_number(out, kind)?;
     let mut i: usize = 0;
     while i < numbers.len() {
-        print_number(numbers[i]);
+        print_number(out, numbers[i])?;
         i += 1;
     }
-    io::print_hex(STDOUT_FILENO, sum as u64, 8);
-    io::write_all(STDOUT_FILENO, b"\n");
+    writeln!(out, "{sum:08x}")
 }

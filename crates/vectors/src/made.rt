@@ -1,6 +1,7 @@
 // Images and Dsts by a seed, and lists.
 use crate::at_most;
 use crate::form::{number, place};
+use std::io::Read;
 
 // More words than any image has, more cells than any Dst, and more words than any list.
 pub const IMAGE: usize = 1024;
@@ -51,10 +52,10 @@ fn fill_image(x: &mut u32, image: &mut [u32; IMAGE]) {
 }
 
 // A change: so many words from a place on become one.
-pub(crate) fn put_change(words: &mut [u32]) {
-    let first = place(words.len());
-    let end = first + at_most(place(words.len()), words.len() - first);
-    let word = number();
+pub(crate) fn put_change<R: Read>(input: &mut R, words: &mut [u32]) {
+    let first = place(input, words.len());
+    let end = first + at_most(place(input, words.len()), words.len() - first);
+    let word = number(input);
     let mut at = first;
     while at < end {
         words[at] = word;
@@ -63,12 +64,12 @@ pub(crate) fn put_change(words: &mut [u32]) {
 }
 
 // An image: its seed, how many changes, and these. The generator's state after the seed's words.
-pub(crate) fn make_image(image: &mut [u32; IMAGE]) -> u32 {
-    let mut x = number();
+pub(crate) fn make_image<R: Read>(input: &mut R, image: &mut [u32; IMAGE]) -> u32 {
+    let mut x = number(input);
     fill_image(&mut x, image);
-    let mut left = number();
+    let mut left = number(input);
     while left > 0 {
-        put_change(image);
+        put_change(input, image);
         left -= 1;
     }
     x
@@ -105,11 +106,11 @@ fn repeat(list: &mut [u32; LIST], period: usize) {
 }
 
 // A list: how many words are given, and these, which repeat.
-pub(crate) fn make_list(list: &mut [u32; LIST]) {
-    let given = place(LIST);
+pub(crate) fn make_list<R: Read>(input: &mut R, list: &mut [u32; LIST]) {
+    let given = place(input, LIST);
     let mut i: usize = 0;
     while i < given {
-        list[i] = number();
+        list[i] = number(input);
         i += 1;
     }
     repeat(list, given);

@@ -26,39 +26,56 @@ use form::number;
 use lane_case::lane_case;
 use reading_case::{TEXT, reading_case};
 use run_case::run_case;
+use std::io;
+use std::io::{BufReader, BufWriter, Read, Write};
 use walk_case::walk_case;
 use writing_case::writing_case;
 
 // How much of a room is lent: never more than it has.
 fn at_most(length: usize, most: usize) -> usize
-    ensures upper_bound { result ≤ most }
-    ensures upper_bound_2 { result ≤ length }
+    ensures within_room { result ≤ most }
+    ensures within_length { result ≤ length }
 {
     if length < most { length } else { most }
 }
 
 // A case of any kind; the length of the text that is kept for the readings after it, which is what was last written.
-fn one_case(kind: u32, kept: &mut [u8; TEXT], length: u32) -> u32 {
+fn one_case<R: Read, W: Write>(
+    input: &mut R,
+    out: &mut W,
+    kind: u32,
+    kept: &mut [u8; TEXT],
+    length: u32,
+) -> io::Result<u32> {
     match kind {
-        1 => run_case(),
-        2 => lane_case(),
-        3 => return writing_case(kept),
-        5 => walk_case(),
-        _ => reading_case(kept, length),
+        1 => run_case(input, out)?,
+        2 => lane_case(input, out)?,
+        3 => return writing_case(input, out, kept),
+        5 => walk_case(input, out)?,
+        _ => reading_case(input, out, kept, length)?,
     }
-    length
+    Ok(length)
 }
 
-fn main() {
+// Cases to the end of the input.
+fn run_cases<R: Read, W: Write>(input: &mut R, out: &mut W) -> io::Result<()> {
     let mut kept = [0u8; TEXT];
     let mut length: u32 = 0;
     let mut left: u32 = 4294967295;
     while left > 0 {
-        let kind = number();
+        let kind = number(input);
         if kind == 0 {
-            return;
+            return Ok(());
         }
-        length = one_case(kind, &mut kept, length);
+        length = one_case(input, out, kind, &mut kept, length)?;
         left -= 1;
     }
+    Ok(())
+}
+
+fn main(rt: HostRuntime) -> io::Result<()> {
+    let mut input = BufReader::new(rt.alloc(), rt.stdin())?;
+    let mut out = BufWriter::new(rt.alloc(), rt.stdout())?;
+    run_cases(&mut input, &mut out)?;
+    out.flush()
 }

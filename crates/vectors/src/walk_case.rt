@@ -4,6 +4,8 @@ use crate::form::{number, place, settings};
 use crate::lines::{NOTHING, cell_checksum, checksum, print};
 use crate::made::{DST, IMAGE, LIST, make_dst, make_image, make_list, put_change};
 use host::{replay_back, replay_begin, replay_forward};
+use std::io;
+use std::io::{Read, Write};
 
 // More words than any store has: 40 entries, and ten words.
 const STORE: usize = 32090;
@@ -84,18 +86,24 @@ fn step_lent(
     )
 }
 
-fn lengths() -> [usize; 4] {
-    [place(IMAGE), place(DST), place(LIST), place(STORE)]
+fn lengths<R: Read>(input: &mut R) -> [usize; 4] {
+    [
+        place(input, IMAGE),
+        place(input, DST),
+        place(input, LIST),
+        place(input, STORE),
+    ]
 }
 
 // One of the eight settings is changed.
-fn put_setting(settings: &mut [u32; 8]) {
-    let which = (number() % 8) as usize;
-    settings[which] = number();
+fn put_setting<R: Read>(input: &mut R, settings: &mut [u32; 8]) {
+    let which = (number(input) % 8) as usize;
+    settings[which] = number(input);
 }
 
 // A step, or what a host changes between steps; the checksum after it.
-fn one_call(
+fn one_call<R: Read>(
+    input: &mut R,
     settings: &mut [u32; 8],
     lent: &mut [usize; 4],
     image: &mut [u32; IMAGE],
@@ -106,7 +114,7 @@ fn one_call(
     walk: &mut [u32; 2],
     sum: u32,
 ) -> u32 {
-    let kind = number();
+    let kind = number(input);
     match kind {
         1 => return step_lent(
             1, settings, lent, image, dst, list, store, outcome, walk, sum,
@@ -114,36 +122,43 @@ fn one_call(
         2 => return step_lent(
             2, settings, lent, image, dst, list, store, outcome, walk, sum,
         ),
-        3 => put_change(store),
-        4 => put_change(image),
-        5 => *walk = [number(), number()],
-        6 => put_setting(settings),
-        7 => *lent = lengths(),
+        3 => put_change(input, store),
+        4 => put_change(input, image),
+        5 => *walk = [number(input), number(input)],
+        6 => put_setting(input, settings),
+        7 => *lent = lengths(input),
         _ => {}
     }
     sum
 }
 
 // What a walk's beginning answered, and where the walk stands at the end.
-fn print_walk(outcome: &[u32; 4], walk: &[u32; 2], sum: u32) {
+fn print_walk<W: Write>(
+    out: &mut W,
+    outcome: &[u32; 4],
+    walk: &[u32; 2],
+    sum: u32,
+) -> io::Result<()> {
     let numbers = [
         outcome[0], outcome[1], outcome[2], outcome[3], walk[0], walk[1],
     ];
-    print(5, &numbers, sum);
+    print(out, 5, &numbers, sum)
 }
 
 // A walk's beginning and its calls.
-fn walk_made(
+fn walk_made<R: Read, W: Write>(
+    input: &mut R,
+    out: &mut W,
     settings: &mut [u32; 8],
     image: &mut [u32; IMAGE],
     dst: &mut [u16; DST],
     list: &[u32; LIST],
     store: &mut [u32; STORE],
-) {
-    let mut lent = lengths();
-    let mut walk = [number(), number()];
+) -> io::Result<()> {
+    let mut lent = lengths(input);
+    let mut walk = [number(input), number(input)];
     let mut outcome = [0u32; 4];
-    let mut left = number();
+    let mut left = number(input);
     let mut sum = step_lent(
         0,
         settings,
@@ -158,6 +173,7 @@ fn walk_made(
     );
     while left > 0 {
         sum = one_call(
+            input,
             settings,
             &mut lent,
             image,
@@ -170,18 +186,26 @@ fn walk_made(
         );
         left -= 1;
     }
-    print_walk(&outcome, &walk, sum);
+    print_walk(out, &outcome, &walk, sum)
 }
 
 // Settings, the list, the image, the four lengths, the walk's two words, and the calls.
-pub(crate) fn walk_case() {
-    let mut settings = settings();
+pub(crate) fn walk_case<R: Read, W: Write>(input: &mut R, out: &mut W) -> io::Result<()> {
+    let mut settings = settings(input);
     let mut list = [0u32; LIST];
     let mut image = [0u32; IMAGE];
     let mut dst = [0u16; DST];
     let mut store = [2779096485u32; STORE];
-    make_list(&mut list);
-    let x = make_image(&mut image);
+    make_list(input, &mut list);
+    let x = make_image(input, &mut image);
     make_dst(x, &mut dst);
-    walk_made(&mut settings, &mut image, &mut dst, &list, &mut store);
+    walk_made(
+        input,
+        out,
+        &mut settings,
+        &mut image,
+        &mut dst,
+        &list,
+        &mut store,
+    )
 }

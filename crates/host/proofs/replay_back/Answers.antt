@@ -2,7 +2,6 @@ use Rattle.runner.specs.Walk.{back}
 use Rattle.listing.specs.Listing.{settings_of}
 use Rattle.host.specs.Words.{walk_of}
 use Rattle.host.proofs.Told.{told-step}
-use borrow.Author.Rules.{rules}
 use Rattle.host.proofs.replay_back.Goals as goal
 
 pub returns : goal.returns

@@ -2,12 +2,12 @@ use lib.ListN.{get_or}
 use Rattle.host.specs.Words.{insn_of, cells_words}
 use Rattle.listing.specs.Listing.{settings_of}
 use Rattle.host.proofs.Told.{told-lane}
-use borrow.Author.Rules.{rules}
 use Rattle.host.proofs.replay_lane.Goals as goal
 
 pub returns : goal.returns
 unfolding cells_words
 returns c =
+    let t =
     told-lane
     c.settings_of.result
     (settings_of c.args.settings.now)
@@ -21,4 +21,5 @@ returns c =
     c.step_lane-stepped.result
     c.settings_of.ensures
     c.insn_of.ensures
-    c.step_lane-stepped.ensures
+    c.step_lane-stepped.ensures in
+    record { value = t.0; own_after = t.1.0; cells_after = t.1.1 }

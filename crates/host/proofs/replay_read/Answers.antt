@@ -1,4 +1,3 @@
-use borrow.Author.Rules.{rules}
 use native.Mathlib.Omega.{arith}
 use lib.ListN.{length}
 use Rattle.host.specs.Words.{settings_words, reading_words}
@@ -16,10 +15,12 @@ overflow_cast-outcome c =
 pub returns : goal.returns
 unfolding settings_words reading_words
 returns c =
+    let t =
     told-read
     (length c.args.list.now)
     c.args.text.now
     c.args.list.now
     _
     c.read-got.result
-    c.read-got.ensures
+    c.read-got.ensures in
+    record { value = t.0; settings_after = t.1.0; outcome_after = t.1.1.0; list_after = t.1.1.1 }

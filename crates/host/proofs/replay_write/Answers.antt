@@ -1,4 +1,3 @@
-use borrow.Author.Rules.{rules}
 use native.Mathlib.Omega.{arith}
 use lib.ListN.{length}
 use Rattle.host.specs.Words.{writing_words}
@@ -22,6 +21,7 @@ overflow_cast-outcome c =
 pub returns : goal.returns
 unfolding writing_words
 returns c =
+    let t =
     told-write
     c.settings_of.result
     (settings_of c.args.settings.now)
@@ -31,4 +31,5 @@ returns c =
     _
     c.write-put.result
     c.settings_of.ensures
-    c.write-put.ensures
+    c.write-put.ensures in
+    record { value = t.0; outcome_after = t.1.0; text_after = t.1.1 }

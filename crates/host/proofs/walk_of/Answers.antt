@@ -1,6 +1,5 @@
 use mathlib.Core.Path.{refl}
 use Rattle.host.specs.Words.{walk_of}
-use borrow.Author.Rules.{rules}
 use Rattle.host.proofs.walk_of.Goals as goal
 
 pub returns : goal.returns

@@ -2,7 +2,6 @@ use mathlib.Core.Path.{sym}
 use native.Mathlib.Omega.{arith}
 use lib.ListN.{length}
 use lib.Dec.{ltb}
-use borrow.Author.Rules.{rules}
 use borrow.Author.Tests.{le-ltb}
 use Rattle.lane.proofs.Cases.{pick_false}
 use Rattle.runner.specs.Image.{register_count}
@@ -17,8 +16,8 @@ overflow_add-lanes c = let a = c.args in record { fits = omega (arith, c.registe
 pub offset_bounds-image-at : goal.offset_bounds-image-at
 offset_bounds-image-at c = let a = c.args in record { fits = omega (arith, c.register_count-count.ensures, c.register_start-at.ensures, part_small (length a.image.now) a.r) }
 
-pub slice-bounds-lanes-end : goal.slice-bounds-lanes-end
-slice-bounds-lanes-end c = let a = c.args in omega (arith, c.register_count-count.ensures, c.register_start-at.ensures, part_within (length a.image.now) a.r)
+pub slice_bounds-lanes-end : goal.slice_bounds-lanes-end
+slice_bounds-lanes-end c = let a = c.args in omega (arith, c.register_count-count.ensures, c.register_start-at.ensures, part_within (length a.image.now) a.r)
 
 pub offset_bounds-lanes-lane : goal.offset_bounds-lanes-lane
 offset_bounds-lanes-lane c = let a = c.args in record { fits = omega (arith, c.if-lane-count.true, c.register_count-count.ensures, c.register_start-at.ensures, part_small (length a.image.now) a.r) }

@@ -1,14 +1,13 @@
 use lib.Seq.{length-take-le}
 use mathlib.Core.Path.{sym}
 use Rattle.listing.proofs.Reports.{reports_within}
-use borrow.Author.Rules.{rules}
 use Rattle.replay.proofs.print_report.Goals as goal
 
 pub slice_bounds-room-end : goal.slice_bounds-room-end
-slice_bounds-room-end c = reports_within _ _ c.replay-printed.new.room _ c.replay-printed.ensures c.replay-printed.auto.room
+slice_bounds-room-end g c = reports_within _ _ c.replay-printed.new.room _ c.replay-printed.ensures c.replay-printed.auto.room
 
 pub slice_bounds-put-end : goal.slice_bounds-put-end
-slice_bounds-put-end c =
+slice_bounds-put-end g c =
     sym
     (length-take-le _ c.replay-printed.new.room
     (reports_within _ _ c.replay-printed.new.room _ c.replay-printed.ensures c.replay-printed.auto.room))

@@ -1,3 +1,4 @@
+use Rattle.std.proofs.Common.{◌-◌, ◌≤◌, ◌≡◌, length}
 use Rattle.vectors.proofs.lane_case.lane_words.Given as goal
 
 abbrev pub invariant-loop-slot : goal.invariant-loop-slot

@@ -1,3 +1,4 @@
+use Rattle.std.proofs.Common.{◌-◌, ◌≤◌, length}
 use Rattle.vectors.proofs.lines.byte_checksum.Given as goal
 
 abbrev pub invariant-loop-i : goal.invariant-loop-i

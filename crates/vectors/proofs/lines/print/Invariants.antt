@@ -1,7 +1,8 @@
+use Rattle.std.proofs.Common.{◌-◌, ◌≤◌, length}
 use Rattle.vectors.proofs.lines.print.Given as goal
 
 abbrev pub invariant-loop-i : goal.invariant-loop-i
-invariant-loop-i l = i ≤ length l.numbers
+invariant-loop-i g l = l.i ≤ length l.numbers
 
 abbrev pub decreases-loop-i : goal.decreases-loop-i
-decreases-loop-i l = length l.numbers - i
+decreases-loop-i g l = length l.numbers - l.i

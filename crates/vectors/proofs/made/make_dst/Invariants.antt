@@ -1,3 +1,4 @@
+use Rattle.std.proofs.Common.{◌-◌, ◌≤◌}
 use Rattle.vectors.proofs.made.make_dst.Given as goal
 
 abbrev pub invariant-loop-i : goal.invariant-loop-i

@@ -4,21 +4,18 @@ use Prim.Native.Nat.{◌≤◌, ◌-◌}
 use lib.ListN.{length, length-set}
 use mathlib.Core.Path.{◌≡◌, refl}
 use native.Mathlib.Omega.{arith}
-use borrow.Author.Rules.{rules}
-use Rattle.vectors.proofs.made.put_change.Statement.{statement}
-use Rattle.vectors.proofs.made.put_change.Tie as tie
 
 pub overflow_add-end : goal.overflow_add-end
-overflow_add-end c = omega (arith, c.at_most.ensures.0, c.place-first.ensures)
+overflow_add-end g c = omega (arith, c.at_most.ensures.within_room, c.place-first.ensures)
 
 pub loop-at-init : goal.loop-at-init
-loop-at-init c = (omega (arith, c.at_most.ensures.1, c.place-first.ensures, c.at_most.ensures.0), refl)
+loop-at-init g c = (omega (arith, c.at_most.ensures.within_length, c.place-first.ensures, c.at_most.ensures.within_room), refl)
 
 pub bounds-words-at : goal.bounds-words-at
-bounds-words-at c = omega (arith, c.loop-at-test.true, c.loop-at.invariant.0, c.loop-at.invariant.1)
+bounds-words-at g c = omega (arith, c.loop-at-test.true, c.loop-at.invariant.0, c.loop-at.invariant.1)
 
 pub loop-at-preserved : goal.loop-at-preserved
-loop-at-preserved c = (c.loop-at.invariant.0, simp length-set c.loop-at.invariant.1)
+loop-at-preserved g c = (c.loop-at.invariant.0, simp length-set c.loop-at.invariant.1)
 
 pub shape_of-words : goal.shape_of-words
-shape_of-words c = c.loop-at.invariant.1
+shape_of-words g c = c.loop-at.invariant.1

@@ -1,7 +1,8 @@
+use Rattle.std.proofs.Common.{◌-◌, ◌≤◌, ◌≡◌, length}
 use Rattle.vectors.proofs.made.put_change.Given as goal
 
 abbrev pub invariant-loop-at : goal.invariant-loop-at
-invariant-loop-at l = (l.end ≤ length l.initial.words) × (length l.words ≡ length l.initial.words)
+invariant-loop-at g l = (l.end ≤ length l.initial.words) × (length l.words ≡ length l.initial.words)
 
 abbrev pub decreases-loop-at : goal.decreases-loop-at
-decreases-loop-at l = l.end - l.at
+decreases-loop-at g l = l.end - l.at

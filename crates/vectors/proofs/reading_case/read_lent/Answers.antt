@@ -1,14 +1,11 @@
 use Rattle.vectors.proofs.reading_case.read_lent.Goals as goal
 -- `read_lent`: each part is as long as it says.
 use lib.ListN.{length}
-use borrow.Author.Rules.{rules}
 use mathlib.Core.Path.{sym}
 use lib.Seq.{length-take-le}
-use Rattle.vectors.proofs.reading_case.read_lent.Statement.{statement}
-use Rattle.vectors.proofs.reading_case.read_lent.Tie as tie
 
 pub slice_bounds-read_and_print-end : goal.slice_bounds-read_and_print-end
-slice_bounds-read_and_print-end c = sym (length-take-le _ _ c.place-text_length.ensures)
+slice_bounds-read_and_print-end g c = sym (length-take-le _ _ c.place-text_length.ensures)
 
 pub slice_bounds-read_and_print-end-3 : goal.slice_bounds-read_and_print-end-3
-slice_bounds-read_and_print-end-3 c = sym (length-take-le _ _ c.place-list_length.ensures)
+slice_bounds-read_and_print-end-3 g c = sym (length-take-le _ _ c.place-list_length.ensures)

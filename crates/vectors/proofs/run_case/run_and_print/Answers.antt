@@ -1,11 +1,8 @@
 use Rattle.vectors.proofs.run_case.run_and_print.Goals as goal
 -- `run_and_print`: the outcome is twenty words, by what `replay_run` promises.
-use borrow.Author.Rules.{rules}
 use mathlib.Core.Path.{sym, ap, ◌∙◌}
 use lib.ListN.{length}
 use Rattle.host.proofs.Lengths.{twenty_words}
-use Rattle.vectors.proofs.run_case.run_and_print.Statement.{statement}
-use Rattle.vectors.proofs.run_case.run_and_print.Tie as tie
 
 pub slice_bounds-print-end : goal.slice_bounds-print-end
-slice_bounds-print-end c = sym (ap length c.replay_run.ensures.1.0 ∙ twenty_words _ _ _ _)
+slice_bounds-print-end g c = sym (ap length c.replay_run.ensures.outcome_after ∙ twenty_words _ _ _ _)

@@ -1,12 +1,9 @@
 use Rattle.vectors.proofs.writing_case.write_and_print.Goals as goal
 -- `write_and_print`: the outcome is five words, by what `replay_write` promises.
-use borrow.Author.Rules.{rules}
 use mathlib.Core.Path.{sym, ap}
 use lib.ListN.{length}
 use Rattle.host.specs.Words.{writing_words}
-use Rattle.vectors.proofs.writing_case.write_and_print.Statement.{statement}
-use Rattle.vectors.proofs.writing_case.write_and_print.Tie as tie
 
 pub slice_bounds-print-end : goal.slice_bounds-print-end
 unfolding writing_words
-slice_bounds-print-end c = sym (ap length c.replay_write.ensures.1.0)
+slice_bounds-print-end g c = sym (ap length c.replay_write.ensures.outcome_after)

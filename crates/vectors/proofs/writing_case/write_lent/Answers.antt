@@ -1,14 +1,11 @@
 use Rattle.vectors.proofs.writing_case.write_lent.Goals as goal
 -- `write_lent`: each part is as long as it says.
 use lib.ListN.{length}
-use borrow.Author.Rules.{rules}
 use mathlib.Core.Path.{sym}
 use lib.Seq.{length-take-le}
-use Rattle.vectors.proofs.writing_case.write_lent.Statement.{statement}
-use Rattle.vectors.proofs.writing_case.write_lent.Tie as tie
 
 pub slice_bounds-write_and_print-end : goal.slice_bounds-write_and_print-end
-slice_bounds-write_and_print-end c = sym (length-take-le _ _ c.at_most-list_length.ensures.0)
+slice_bounds-write_and_print-end g c = sym (length-take-le _ _ c.at_most-list_length.ensures.within_room)
 
 pub slice_bounds-write_and_print-end-3 : goal.slice_bounds-write_and_print-end-3
-slice_bounds-write_and_print-end-3 c = sym (length-take-le _ _ c.at_most-room_length.ensures.0)
+slice_bounds-write_and_print-end-3 g c = sym (length-take-le _ _ c.at_most-room_length.ensures.within_room)
