@@ -12,11 +12,11 @@ import sys
 
 NAME = r"[^\s(){}\[\].;,@\"«»:]+"
 TOKEN = re.compile(NAME)
-HEAD = re.compile(rf"^ *(?:(?:pub|abbrev|unfoldable) +)*({NAME})((?: +(?:{NAME}|\{{[^{{}}\n]*\}}))*) +: ", re.M)
+HEAD = re.compile(rf"^ *(?:(?:pub|abbrev|unfoldable) +)*({NAME})((?: +(?:{NAME}|\{{[^{{}}\n]*\}}))*) +:(?: |$)", re.M)
 USE = re.compile(r"^use ([^\s;{]+)(\{[^}]*\})?(?: as (\S+))?", re.M)
 WORDS = {"pub", "abbrev", "unfoldable", "use", "where", "module", "record", "data", "let", "in", "elim", "unfolding", "mod", "open"}
 # What Rattle itself names in a proof file keeps its spelling.
-MADE = re.compile(r"(invariant|decreases|returns)-|.*-spec$")
+MADE = re.compile(r"(invariant|decreases|returns)-|.*-(spec|requires)$")
 # Names whose words the rule does not tell.
 SAID = {"isNaN": "is_nan"}
 
@@ -65,7 +65,7 @@ def declared(root):
     for path in files(root, ".antt"):
         text = quiet(read(path))
         for m in HEAD.finditer(text):
-            if re.match(r"(tie|goal)\.", text[m.end():]):
+            if re.match(r"\s*(tie|goal)\.", text[m.end():]):
                 continue
             for name in [m[1], *(m[2].split() if "{" not in m[2] else [])]:
                 if name in WORDS or MADE.match(name) or not re.match(r"[a-z]", name):

@@ -1,11 +1,11 @@
 use Rattle.runner.specs.Walk.{back}
 use Rattle.listing.specs.Listing.{settings_of}
 use Rattle.host.specs.Words.{walk_of}
-use Rattle.host.proofs.Told.{told-step}
+use Rattle.host.proofs.Told.{told_step}
 use Rattle.host.proofs.replay_back.Goals as goal
 
 pub returns : goal.returns
 returns c =
     let a = c.args in
-    told-step back c.settings_of.result (settings_of a.settings.now) a.list.now c.walk_of.result (walk_of a.walk.now) a.image.now a.dst.now a.store.now _ _ _ c.back-stepped.result
+    told_step back c.settings_of.result (settings_of a.settings.now) a.list.now c.walk_of.result (walk_of a.walk.now) a.image.now a.dst.now a.store.now _ _ _ c.back-stepped.result
     c.settings_of.ensures c.walk_of.ensures c.back-stepped.ensures

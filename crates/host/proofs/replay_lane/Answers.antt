@@ -1,14 +1,14 @@
 use lib.ListN.{get_or}
 use Rattle.host.specs.Words.{insn_of, cells_words}
 use Rattle.listing.specs.Listing.{settings_of}
-use Rattle.host.proofs.Told.{told-lane}
+use Rattle.host.proofs.Told.{told_lane}
 use Rattle.host.proofs.replay_lane.Goals as goal
 
 pub returns : goal.returns
 unfolding cells_words
 returns c =
     let t =
-    told-lane
+    told_lane
     c.settings_of.result
     (settings_of c.args.settings.now)
     c.args.lane

@@ -1,7 +1,7 @@
 use native.Mathlib.Omega.{arith}
 use lib.ListN.{length}
 use Rattle.host.specs.Words.{settings_words, reading_words}
-use Rattle.host.proofs.Told.{told-read}
+use Rattle.host.proofs.Told.{told_read}
 use Rattle.host.proofs.Lengths.{read_fits}
 use Rattle.host.proofs.replay_read.Goals as goal
 
@@ -16,7 +16,7 @@ pub returns : goal.returns
 unfolding settings_words reading_words
 returns c =
     let t =
-    told-read
+    told_read
     (length c.args.list.now)
     c.args.text.now
     c.args.list.now

@@ -1,12 +1,12 @@
 use lib.ListN.{length}
 use Rattle.listing.specs.Program.{output}
-use Rattle.host.proofs.Told.{told-report}
+use Rattle.host.proofs.Told.{told_report}
 use Rattle.host.proofs.replay_report.Goals as goal
 
 pub returns : goal.returns
 returns c =
     let t =
-    told-report
+    told_report
     (output c.args.text.now)
     c.args.room.now
     _

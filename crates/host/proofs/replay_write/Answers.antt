@@ -2,7 +2,7 @@ use native.Mathlib.Omega.{arith}
 use lib.ListN.{length}
 use Rattle.host.specs.Words.{writing_words}
 use Rattle.listing.specs.Listing.{settings_of}
-use Rattle.host.proofs.Told.{told-write}
+use Rattle.host.proofs.Told.{told_write}
 use Rattle.host.proofs.Lengths.{write_fits}
 use Rattle.host.proofs.replay_write.Goals as goal
 
@@ -22,7 +22,7 @@ pub returns : goal.returns
 unfolding writing_words
 returns c =
     let t =
-    told-write
+    told_write
     c.settings_of.result
     (settings_of c.args.settings.now)
     (length c.args.text.now)
