@@ -2,13 +2,15 @@
 # shellcheck shell=sh disable=SC2154
 #
 #   built_program NAME [proved]  sees to target/bin/NAME, the program of crates/NAME
-#   built_library                sees to target/staticlib/libhost.a, the library for hosts
+#   built_passed NAME SUM        takes that program from an rt ci that has just passed; SUM is what built_sum NAME said before it
+#   built_library                sees to target/staticlib/libhost.a, the library for hosts, which crates/host_c makes
 #   built_kit NAME               prints the identity of the kit that built NAME, or else of the rt on the PATH, or else 'unknown'
 #   start NAME [WORD..]          runs a program that built_program has seen to; it needs no rt
 #
-# The first two answer 0 where the file is there, was proved by a check that ended well, and is of the sources as they are now. Else they build
-# it, saying so on standard error, and answer 1, having said why, where that fails: the file must then not be used. With the word 'proved',
-# a program is good enough if it's proved, though it doesn't write what its file stdout has (tests/differential shows how it differs).
+# A program and the library answer 0 where the file is there, was proved by a check that ended well, and is of the sources as they are now. Else
+# they build it, saying so on standard error, and answer 1, having said why, where that fails: the file must then not be used. With the word
+# 'proved', a program is good enough if it's proved, though it doesn't write what its file stdout has (tests/differential shows how it differs).
+# Such a check is over what earlier ones kept, in crates/*/out; from nothing all is proved by rt ci alone.
 #
 # What was built is known by its stamp, target/built/NAME, which is written after a good check and at no other time. It has the kit, the
 # kit's place, and the sums of the sources and of the file.
@@ -30,18 +32,19 @@ built_crates() { # CRATE
             n = split(below[name], words, " ")
             for (i = 1; i <= n; i++) visit(words[i])
         }
-        { sub(/#.*/, ""); below[$1] = $2 }
+        { sub(/#.*/, ""); sub(/ .*/, "", $1); below[$1] = $2 }
         END { visit(crate) }' crates.txt
 }
 
 # What a check of the crate depends on, from the repository's folder: one file or folder a line.
 built_sources() { # CRATE
     for built_crate in $(built_crates "$1"); do
-        for built_part in src specs proofs stdin stdout args data; do
+        for built_part in src specs proofs stdin stdout args status data; do
             if [ -e "crates/$built_crate/$built_part" ]; then echo "crates/$built_crate/$built_part"; fi
         done
     done
     echo crates.txt
+    if [ -e HANDLES ]; then echo HANDLES; fi
 }
 
 # One sum of all the sources, their names too: unlike their times it shows a file that was taken away, or put back from an older copy.
@@ -132,12 +135,16 @@ built_lock() {
     built_job=''
 }
 
-# Runs rt in the repository: what it says goes to the room's log, and its word on each crate to standard error as it comes.
+# Runs rt in a crate's folder: what it says goes to the room's log, and its own lines to standard error as they come. A program that it runs is
+# given the file stdin, and what it prints goes to the room.
 # In a session of its own, so that one kill reaches all that it starts; in the background, since a trap waits for what is in front.
-built_run() { # WORD..
+built_run() { # CRATE WORD..
     # shellcheck disable=SC2016 # for the inner shell
-    (TMPDIR=$built_room && export TMPDIR && cd "$root" && exec setsid sh -c '
-        { rt "$@" 2>&1 && : >"$TMPDIR/well"; } | while IFS= read -r line; do
+    (TMPDIR=$built_room && export TMPDIR && cd "$root/crates/$1" && shift && exec setsid sh -c '
+        given=/dev/null printed=$TMPDIR/printed
+        [ ! -e stdin ] || given=stdin
+        if [ "$1" = lib ]; then printed=/dev/fd/3; fi
+        { rt "$@" 3>&1 2>&1 >"$printed" <"$given" && : >"$TMPDIR/well"; } | while IFS= read -r line; do
             printf "%s\n" "$line" >>"$TMPDIR/log"
             case $line in "rt: "*) printf "    %s\n" "${line#rt: }" >&2 ;; esac
         done' sh "$@") &
@@ -146,33 +153,45 @@ built_run() { # WORD..
     built_job=''
 }
 
-# Builds the file and writes its stamp. The sums of the sources are taken before: one that changes meanwhile makes it stale at once.
-built_make() { # NAME FILE CRATE ENOUGH WORD..
-    built_name=$1 built_file=$2 built_of=$3 built_enough=$4
-    shift 4
+# What a stamp begins with. The sums of the sources are taken before the build: one that changes meanwhile makes it stale at once.
+built_stamp() { # SUM
+    echo "kit=$(rt_kit)"
+    echo "place=$(dirname "$(rt doc </dev/null)")"
+    echo "sources=$1"
+}
+
+# Puts what rt made in place, and writes the rest of its stamp.
+built_put() { # NAME FILE MADE STAMP
+    mkdir -p "$(dirname "$root/$2")" "$root/target/built" && cp -f "$3" "$root/$2.new" && mv -f "$root/$2.new" "$root/$2" &&
+        echo "file=$(sha256sum <"$root/$2")" >>"$4" && mv -f "$4" "$root/target/built/$1"
+}
+
+# Builds the file and writes its stamp.
+built_make() { # NAME FILE CRATE ENOUGH MADE WORD..
+    built_name=$1 built_file=$2 built_of=$3 built_enough=$4 built_made=$root/crates/$3/out/$5
+    shift 5
     built_room=$(mktemp -d) || return 1
-    chmod 711 "$built_room" # rt, as root, runs programs as nobody, on copies below TMPDIR
+    chmod 711 "$built_room"
     rm -f "$root/target/built/$built_name"
-    {
-        echo "kit=$(rt_kit)"
-        echo "place=$(dirname "$(dirname "$(rt doc </dev/null)")")"
-        echo "sources=$(built_sum "$built_of")"
-    } >"$built_room/stamp"
-    built_run "$@"
-    if [ -e "$built_room/well" ]; then
+    built_stamp "$(built_sum "$built_of")" >"$built_room/stamp"
+    built_run "$built_of" "$@"
+    built_wanted=/dev/null
+    [ ! -e "$root/crates/$built_of/stdout" ] || built_wanted=$root/crates/$built_of/stdout
+    if [ -e "$built_room/well" ] && { [ "$1" = lib ] || cmp -s "$built_room/printed" "$built_wanted"; }; then
         echo ran=yes >>"$built_room/stamp"
-    elif [ "$built_enough" = proved ] && grep -q "^rt: $built_of proved, and its run FAILED" "$built_room/log"; then
+    elif [ "$built_enough" = proved ] && grep -q "^rt: running out/$built_name" "$built_room/log"; then
         echo ran=no >>"$built_room/stamp"
     else
         tail -n 20 "$built_room/log" >&2
-        built_say "$built_file was not built: rt $* failed"
+        [ ! -e "$built_room/well" ] || built_say "$built_name is proved, and what it printed is not what its file stdout has"
+        built_say "$built_file was not built: rt $* failed in crates/$built_of"
         return 1
     fi
-    echo "file=$(sha256sum <"$root/$built_file")" >>"$built_room/stamp" && mv "$built_room/stamp" "$root/target/built/$built_name"
+    built_put "$built_name" "$built_file" "$built_made" "$built_room/stamp"
 }
 
 # Under the lock: another run may have built it meanwhile.
-built_locked() { # NAME FILE CRATE ENOUGH WORD..
+built_locked() { # NAME FILE CRATE ENOUGH MADE WORD..
     built_lock || return 1
     built_reason=$(built_why "$@")
     [ -n "$built_reason" ] || return 0
@@ -183,7 +202,7 @@ built_locked() { # NAME FILE CRATE ENOUGH WORD..
     built_say "$2 is built"
 }
 
-built() { # NAME FILE CRATE ENOUGH WORD..
+built() { # NAME FILE CRATE ENOUGH MADE WORD..
     built_reason=$(built_why "$@")
     [ -n "$built_reason" ] || return 0
     if [ -z "$(rt_kit)" ]; then
@@ -204,19 +223,27 @@ built() { # NAME FILE CRATE ENOUGH WORD..
 }
 
 built_program() { # NAME [proved]
-    built "$1" "target/bin/$1" "$1" "${2-}" check "$1"
+    built "$1" "target/bin/$1" "$1" "${2-}" "$1" run
+}
+
+built_passed() { # NAME SUM
+    built_taken=$root/target/built/$1.taken
+    mkdir -p "$root/target/built" && { built_stamp "$2" && echo ran=yes; } >"$built_taken" &&
+        built_put "$1" "target/bin/$1" "$root/crates/$1/out/$1" "$built_taken" || return 1
+    built_reason=$(built_why "$1" "target/bin/$1" "$1" '')
+    [ -z "$built_reason" ] || { built_say "target/bin/$1 can't be used: $built_reason"; return 1; }
 }
 
 built_library() {
-    built libhost.a target/staticlib/libhost.a host '' staticlib host
+    built libhost.a target/staticlib/libhost.a host_c '' libhost_c.a lib
 }
 
-# A program is for x86-64 and is started under the kit's own loader; on another processor, under the kit's emulator.
+# A program is for x86-64 and is started under the kit's own loader; on another processor, under qemu-x86_64.
 start() { # NAME [WORD..]
     start_program=$root/target/bin/$1
-    start_tools=$(stamped place "$1")/on/$(uname -m)/toolchain
-    start_emulator=$start_tools/bin/qemu-x86_64
-    [ -x "$start_emulator" ] || start_emulator=''
+    start_libraries=$(stamped place "$1")/toolchain/lib
+    start_emulator=''
+    [ "$(uname -m)" = x86_64 ] || start_emulator=qemu-x86_64
     shift
-    ${start_emulator:+"$start_emulator"} "$start_tools/lib/ld-linux-x86-64.so.2" --library-path "$start_tools/lib" "$start_program" "$@"
+    ${start_emulator:+"$start_emulator"} "$start_libraries/ld-linux-x86-64.so.2" --library-path "$start_libraries" "$start_program" "$@"
 }

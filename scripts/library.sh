@@ -12,7 +12,7 @@
 # header's.
 #
 # On x86-64 the compilers are CC and CXX, by default cc and c++. Elsewhere they are CROSS and CROSS_CXX, by default Debian's cross compilers, and
-# programs run under the kit's emulator: linked statically, so that it needs no folder of x86-64 libraries, or else with those of the compiler.
+# programs run under qemu-x86_64: linked statically, so that it needs no folder of x86-64 libraries, or else with those of the compiler.
 
 machine=$(uname -m)
 version=$(sed -n 's/^#define REPLAY_VERSION //p' "$root/include/replay.h")
@@ -32,11 +32,8 @@ find_compiler() { # c|cpp
 find_emulator() {
     emulator=''
     [ "$machine" = x86_64 ] && return
-    kit=$(stamped place libhost.a)
-    [ -n "$kit" ] || kit=$(dirname "$(dirname "$(rt doc 2>/dev/null)")")
-    emulator=$kit/on/$machine/toolchain/bin/qemu-x86_64
-    [ -x "$emulator" ] && return
-    built_say "no emulator for x86-64: the kit has none for $machine, or rt is not on the PATH"
+    emulator=$(command -v qemu-x86_64) && return
+    built_say 'no emulator for x86-64, qemu-x86_64 (Debian: qemu-user)'
     return 1
 }
 
