@@ -8,7 +8,7 @@
 #
 # An OBJECT exports PREFIX_run, which is the library's replay_run, and so for begin, forward, back, read and write where the library has them, and
 # PREFIX_unpack, which is unpack.ll's loop; and no other name: several fit in one process.
-# On x86-64 the library is target/staticlib/libhost.a, which rt makes, and the loop is added. Elsewhere it is that library's LLVM module, kept
+# On x86-64 the library is crates/host_c/out/libhost_c.a, which rt makes, and the loop is added. Elsewhere it is that library's LLVM module, kept
 # on its way through rt's compiler and compiled by that compiler for this processor, with the same optimisation, the loop in it.
 # Files of its own go to target/bench.
 
@@ -34,8 +34,8 @@ are_numbers() {
 command -v rt >/dev/null || lacks 'rt is not on the path'
 command -v "$cc" >/dev/null || lacks "no C compiler $cc (set CC)"
 command -v objcopy >/dev/null || lacks 'no objcopy (Debian: binutils)'
-kit=$(dirname "$(dirname "$(rt doc)")")
-tools=$kit/on/$machine/toolchain
+kit=$(dirname "$(rt doc)")
+tools=$kit/toolchain
 mkdir -p "$out"
 
 compile() {
@@ -75,7 +75,7 @@ build_library() {
 x86_64_object() {
     with_loop "$5" x86_64 "$3.own" -ffunction-sections
     "$1ld" -r --gc-sections -e replay_unpack -o "$3.loop" "$3.own"
-    one_object "$1" "$2" "$3" "$4/target/staticlib/libhost.a" "$3.loop"
+    one_object "$1" "$2" "$3" "$4/crates/host_c/out/libhost_c.a" "$3.loop"
 }
 
 # with_loop MODULE MACHINE OBJECT [FLAG]: the module and unpack.ll's loop, compiled for a machine.
@@ -87,34 +87,40 @@ with_loop() {
     $from_ir --target="$2-unknown-linux-gnu" -c -O3 -fPIC ${4:+"$4"} "$3.ll" -o "$3"
 }
 
-# staticlib TREE KIT: rt staticlib host there, by that kit.
+# staticlib TREE KIT: rt lib in its crates/host_c, by that kit. What was built there before is built again, so that the compiler is handed a module.
 staticlib() {
-    say "rt staticlib host in $1: it proves first, which takes minutes where it is not proved yet"
-    (cd "$1" && RATTLE_HOME=$2 rt staticlib host) >"$out/log" 2>&1 || {
+    [ -d "$1/crates/host_c" ] || lacks "no crates/host_c in $1: it is of an older kit, which rt is not"
+    say "rt lib in $1/crates/host_c: it proves first, which takes minutes where it is not proved yet"
+    rm -f "$1/crates/host_c/out/libhost_c.a"
+    (cd "$1/crates/host_c" && "$2/bin/rt" lib) >"$out/log" 2>&1 || {
         cat "$out/log" >&2
-        lacks "rt staticlib host failed in $1"
+        lacks "rt lib failed in $1/crates/host_c"
     }
 }
 
-# keeping_kit FOLDER MODULE: a kit that differs from rt's in one thing: its clang keeps the module that it is given.
+# keeping_kit FOLDER MODULE: a kit that differs from rt's in one thing: its clang keeps the module that it is given. rt finds its kit by where its
+# own files are, so these two are copies.
 keeping_kit() {
     rm -rf "$1"
-    mkdir -p "$1/on/$machine/toolchain/bin"
-    link_all "$kit" "$1" on
-    link_all "$kit/on/$machine" "$1/on/$machine" toolchain
-    link_all "$tools" "$1/on/$machine/toolchain" bin
-    link_all "$tools/bin" "$1/on/$machine/toolchain/bin" clang
-    cat >"$1/on/$machine/toolchain/bin/clang" <<END
+    mkdir -p "$1/bin" "$1/toolchain/bin"
+    link_all "$kit" "$1" bin toolchain
+    link_all "$kit/bin" "$1/bin" rt rtlib.py
+    cp "$kit/bin/rt" "$kit/bin/rtlib.py" "$1/bin"
+    link_all "$tools" "$1/toolchain" bin
+    link_all "$tools/bin" "$1/toolchain/bin" clang
+    cat >"$1/toolchain/bin/clang" <<END
 #!/bin/sh
 for word do case \$word in *.bc) cp "\$word" '$2' ;; esac; done
 exec '$tools/bin/clang' "\$@"
 END
-    chmod +x "$1/on/$machine/toolchain/bin/clang"
+    chmod +x "$1/toolchain/bin/clang"
 }
 
-# link_all FROM TO EXCEPT
+# link_all FROM TO EXCEPT..
 link_all() {
-    for file in "$1"/*; do
-        [ "$(basename "$file")" = "$3" ] || ln -s "$file" "$2/"
+    from=$1 to=$2
+    shift 2
+    for file in "$from"/*; do
+        case " $* " in *" ${file##*/} "*) ;; *) ln -s "$file" "$to/" ;; esac
     done
 }

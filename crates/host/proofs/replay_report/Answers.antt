@@ -1,4 +1,3 @@
-use lib.ListN.{length}
 use Rattle.listing.specs.Program.{output}
 use Rattle.host.proofs.Told.{told_report}
 use Rattle.host.proofs.replay_report.Goals as goal

@@ -1,5 +1,4 @@
 use Prim.Native.Nat.{◌-◌, ◌≤◌}
-use native.Mathlib.Omega.{arith}
 use Rattle.replay.proofs.to_rewrite.Given as goal
 
 abbrev pub invariant-loop-i : goal.invariant-loop-i

@@ -1,10 +1,6 @@
-use Prim.Native.Nat.{ℕ, ◌-◌, ◌^◌, ◌≤◌, ◌<◌}
+use Prim.Native.Nat.{◌-◌, ◌^◌, ◌≤◌, ◌<◌}
 use lib.ListN.{length}
-use lib.Seq.{length-take-le}
-use mathlib.Core.List.{List}
-use mathlib.Core.Path.{◌≡◌, sym}
-use native.Mathlib.Omega.{arith}
-use Rattle.replay.specs.Input.{IsPrefixLen}
+use mathlib.Core.Path.{◌≡◌}
 use Rattle.replay.proofs.input.read_all.Given as goal
 
 abbrev pub invariant-loop-done : goal.invariant-loop-done

@@ -1,8 +1,7 @@
 use Rattle.vectors.proofs.made.put_change.Goals as goal
 -- `put_change`: within the words.
-use Prim.Native.Nat.{◌≤◌, ◌-◌}
-use lib.ListN.{length, length-set}
-use mathlib.Core.Path.{◌≡◌, refl}
+use lib.ListN.{length-set}
+use mathlib.Core.Path.{refl}
 use native.Mathlib.Omega.{arith}
 
 pub overflow_add-end : goal.overflow_add-end

@@ -1,6 +1,5 @@
 use Rattle.vectors.proofs.reading_case.read_lent.Goals as goal
 -- `read_lent`: each part is as long as it says.
-use lib.ListN.{length}
 use mathlib.Core.Path.{sym}
 use lib.Seq.{length-take-le}
 

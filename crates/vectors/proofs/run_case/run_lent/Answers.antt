@@ -1,6 +1,5 @@
 use Rattle.vectors.proofs.run_case.run_lent.Goals as goal
 -- `run_lent`: each part is as long as it says.
-use lib.ListN.{length}
 use mathlib.Core.Path.{sym}
 use lib.Seq.{length-take-le}
 

@@ -1,6 +1,5 @@
 use Rattle.vectors.proofs.writing_case.write_lent.Goals as goal
 -- `write_lent`: each part is as long as it says.
-use lib.ListN.{length}
 use mathlib.Core.Path.{sym}
 use lib.Seq.{length-take-le}
 
