@@ -1,5 +1,5 @@
--- What the result of one instruction depends on: nothing but what the rule is handed. The column theorem rests on `same-lane` and `same-cells`, a theorem
--- for one lane in lists without CONFIG on `lanewise-only`; none looks at an operation. Assumes nothing.
+-- What the result of one instruction depends on: nothing but what the rule is handed. The column theorem rests on `same_lane` and `same_cells`, a theorem
+-- for one lane in lists without CONFIG on `lanewise_only`; none looks at an operation. Assumes nothing.
 use Rattle.std.proofs.Common.{◌≡◌, ℕ, Bool, eqb, List, sym, ◌∙◌, ne_eqb}
 use Rattle.lane.specs.declared.Settings.{Settings}
 use Rattle.lane.specs.declared.Insn.{Insn}

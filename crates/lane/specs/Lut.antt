@@ -36,7 +36,7 @@ sum_of k b = add binary32 (mul binary32 k.slope b) k.intercept
 abbrev pub result_of : ℕ → ℕ → ℕ → ℕ → Float
 result_of c0 c1 c2 r3 = sum_of (piece_of (serving (input_of r3) c0 c1 c2)) (input_of r3)
 
--- "A denormal result becomes zero of its sign; any NaN becomes 0x7FC00000" (which is what toBits gives a NaN).
+-- "A denormal result becomes zero of its sign; any NaN becomes 0x7FC00000" (which is what to_bits gives a NaN).
 unfoldable pub flushed : ℕ → ℕ
 flushed w = pick (nat_lt (magnitude w) (2 ^ 23)) (sign w * 2 ^ 31) w
 

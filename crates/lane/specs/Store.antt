@@ -21,7 +21,7 @@ cells even odd = record { even = even; odd = odd }
 
 -- and with `cell` in the place of one of them.
 unfoldable pub with_cell : Bool → ℕ → ℕ → ℕ → Cells
-with_cell toOdd cell even odd = pick toOdd (cells even cell) (cells cell odd)
+with_cell to_odd cell even odd = pick to_odd (cells even cell) (cells cell odd)
 
 -- STORE in lane L to address a: "In enabled lanes"; "Bit 1 doesn't block it." vd is "the register read (any of 0 to 15)".
 unfoldable pub store : ℕ → Insn → ℕ → Bool → ℕ → ℕ → Lane → Cells

@@ -19,7 +19,7 @@ rank w = pick (nat_lt w (2 ^ 31)) (pos w) (negsuc (magnitude w))
 unfoldable pub ranks_below : ℕ → ℕ → Bool
 ranks_below c d = int_lt (rank c) (rank d)
 
--- Two whole numbers are equal; the library has their order, `lt_z`.
+-- Two whole numbers are equal; the library has their order, `int_lt`.
 abbrev pub eq_z : ℤ → ℤ → Bool
 eq_z (pos a) (pos b) = a == b
 eq_z (pos a) (negsuc b) = false

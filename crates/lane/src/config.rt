@@ -55,7 +55,8 @@ fn edition_constant(edition: u32, vd: u32) -> u32
         return 0xBF800000;
     }
     if vd == 12 {
-        if edition == 1 {
+        let is_first = edition == 1;
+        if is_first {
             return 0x37800000;
         }
         return 0x3B000000;

@@ -56,7 +56,7 @@ pub fn begin(s: Settings, image: &[u32], dst: &[u16], list: &[u32]) -> Begun
 
 // 1 to 6, as of a run; the walk's cursor is tried with the settings.
 fn lent_answer(s: Settings, cursor: u32, image: &[u32], dst: &[u16], list: &[u32]) -> u32
-    ensures { result ≡ Walks.lent_answer s list.now (record { image = image.entry.now; dst = dst.now; cursor = cursor }) }
+    ensures { result ≡ Walks.lent_answer s list.now (record { image = image.now; dst = dst.now; cursor = cursor }) }
 {
     if image.len() != 768 {
         return 1;
@@ -119,7 +119,7 @@ fn kept_cells(op: u32, a: u16, image: &[u32], dst: &[u16]) -> [u32; 32]
 // An entry of 802 words: what there is before instruction `i`, which is at address `a`.
 fn keep(entry: &mut [u32], i: Insn, a: u16, cursor: u32, image: &[u32], dst: &[u16])
     requires { (length entry.old ≡ 802) × ((length image.now ≡ 768) × ((length dst.now ≡ 16384) × (a < 1024))) }
-    ensures { entry.new ≡ Walks.entry_at i a (record { image = image.entry.now; dst = dst.now; cursor = cursor }) }
+    ensures { entry.new ≡ Walks.entry_at i a (record { image = image.now; dst = dst.now; cursor = cursor }) }
 {
     let met = kept_cells(i.op, a, image, dst);
     put_words(entry, 0, image);
@@ -210,7 +210,7 @@ fn bring_cells(op: u32, dst: &mut [u16], image: &[u32], entry: &[u32])
 // knows then that nothing overlaps.
 fn bring_back(op: u32, image: &mut [u32], dst: &mut [u16], entry: &[u32]) -> u32
     requires { (length image.old ≡ 768) × ((length dst.old ≡ 16384) × (length entry.now ≡ 802)) }
-    ensures { record { image = image.exit.now; dst = dst.new; cursor = result } ≡ Walks.brought_back op entry.now dst.old }
+    ensures { record { image = image.new; dst = dst.new; cursor = result } ≡ Walks.brought_back op entry.now dst.old }
 {
     let mut before = [0u32; 768];
     put_words(&mut before, 0, &entry[0..768]);
@@ -222,7 +222,7 @@ fn bring_back(op: u32, image: &mut [u32], dst: &mut [u16], entry: &[u32]) -> u32
 // Instruction `k` of a list taken back by its entry; the cursor before it.
 fn step_back(k: usize, image: &mut [u32], dst: &mut [u16], list: &[u32], store: &[u32]) -> u32
     requires { (length image.old ≡ 768) × ((length dst.old ≡ 16384) × ((6 * k + 6 ≤ length list.now) × ((k < list_limit) × (802 * k + 802 ≤ length store.now)))) }
-    ensures { record { image = image.exit.now; dst = dst.new; cursor = result } ≡ Walks.brought_back (insn_at list.now k).op (Walks.entry_in store.now k) dst.old }
+    ensures { record { image = image.new; dst = dst.new; cursor = result } ≡ Walks.brought_back (insn_at list.now k).op (Walks.entry_in store.now k) dst.old }
 {
     let first = 6 * k;
     let start = ENTRY * k;

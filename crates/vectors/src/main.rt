@@ -27,7 +27,7 @@ use lane_case::lane_case;
 use reading_case::{TEXT, reading_case};
 use run_case::run_case;
 use std::io;
-use std::io::{BufReader, BufWriter, Read, Write};
+use std::io::{Read, Write};
 use walk_case::walk_case;
 use writing_case::writing_case;
 
@@ -74,8 +74,5 @@ fn run_cases<R: Read, W: Write>(input: &mut R, out: &mut W) -> io::Result<()> {
 }
 
 fn main(rt: HostRuntime) -> io::Result<()> {
-    let mut input = BufReader::new(rt.alloc(), rt.stdin())?;
-    let mut out = BufWriter::new(rt.alloc(), rt.stdout())?;
-    run_cases(&mut input, &mut out)?;
-    out.flush()
+    run_cases(&mut rt.stdin(), &mut rt.stdout())
 }

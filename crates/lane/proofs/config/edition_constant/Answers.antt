@@ -7,9 +7,9 @@ pub returns-then-vd-eq11 : goal.returns-then-vd-eq11
 unfolding edition_constant
 returns-then-vd-eq11 c = search (rules, cases) depth 12
 
-pub returns-then-edition-eq1 : goal.returns-then-edition-eq1
+pub returns-then-is_first : goal.returns-then-is_first
 unfolding edition_constant
-returns-then-edition-eq1 c = search (rules, cases) depth 12
+returns-then-is_first c = search (rules, cases) depth 12
 
 pub returns-then-vd-eq12 : goal.returns-then-vd-eq12
 unfolding edition_constant
