@@ -4,7 +4,7 @@
 usage: tools/respell.py [--look] [FOLDER]     FOLDER is the repository, by default the current folder; --look lists the names and writes nothing
 
 It goes over specs/, proofs/, the clauses of src/ and the must-fail edits. A name that a file brings in from a library stays there.
-It was run once, when the repository came to a newer Rattle (docs/PORT.md).
+It was run when the repository came to a newer Rattle (docs/PORT.md).
 """
 import os
 import re
