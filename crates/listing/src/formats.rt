@@ -20,12 +20,10 @@ fn begins(text: &[u8], mark: &[u8]) -> bool
     requires { Held.Letters mark.now }
     ensures { result ≡ Forms.begins mark.now text.now }
 {
-    let mut i: usize = 0;
-    while i < mark.len() {
+    for i in 0..mark.len() {
         if byte_at(text, i) != mark[i] {
             return false;
         }
-        i += 1;
     }
     true
 }

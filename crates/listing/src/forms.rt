@@ -65,8 +65,7 @@ fn number(text: &[u8], at: usize, base: u32, w: usize) -> Got
     ensures { Places.Gets (Forms.scan_number base w (drop at text.now)) text.now result }
 {
     let mut value: u32 = 0;
-    let mut i: usize = 0;
-    while i < w {
+    for i in 0..w {
         let d = digit(byte_at(text, at + i));
         if base <= d {
             return Got {
@@ -77,7 +76,6 @@ fn number(text: &[u8], at: usize, base: u32, w: usize) -> Got
             };
         }
         value = value * base + d;
-        i += 1;
     }
     Got {
         good: true,
@@ -93,12 +91,10 @@ fn named(text: &[u8], at: usize, op: usize) -> bool
     ensures { result ≡ Forms.begins (Forms.name_of op) (drop at text.now) }
 {
     let n = NAME_LENGTHS[op];
-    let mut i: usize = 0;
-    while i < n {
+    for i in 0..n {
         if byte_at(text, at + i) != NAMES[7 * op + i] {
             return false;
         }
-        i += 1;
     }
     true
 }
@@ -188,11 +184,10 @@ pub(crate) fn scan(text: &[u8], from: usize, first: u32, form: &[u8]) -> Scanned
     ensures { Places.Finds (Forms.scan (Places.form_of form.now) (drop from text.now)) text.now first result }
 {
     let mut numbers: [u32; 10] = [0; 10];
-    let mut f: usize = 0;
     let mut at = from;
     let mut line = first as usize;
     let mut n: usize = 0;
-    while f < form.len() {
+    for f in 0..form.len() {
         let x = form[f];
         let got = item(text, at, x);
         if !got.good {
@@ -208,7 +203,6 @@ pub(crate) fn scan(text: &[u8], from: usize, first: u32, form: &[u8]) -> Scanned
         n += got.count;
         at = got.at;
         line += (x == 10) as usize;
-        f += 1;
     }
     Scanned {
         good: true,
@@ -255,10 +249,8 @@ fn put_name(out: &mut [u8], at: usize, op: usize) -> usize
     ensures { Places.Grown at result out.old out.new (Forms.name_of op) }
 {
     let n = NAME_LENGTHS[op];
-    let mut i: usize = 0;
-    while i < n {
+    for i in 0..n {
         out[at + i] = NAMES[7 * op + i];
-        i += 1;
     }
     at + n
 }
@@ -316,14 +308,12 @@ pub(crate) fn render(
     requires { (from ≤ length values.now) × (place + length (Forms.render (Places.form_of form.now) (drop from values.now)) ≤ length out.old) }
     ensures { Places.Renders (Forms.render (Places.form_of form.now) (drop from values.now)) place (Places.widest (Places.form_of form.now)) out.old out.new result }
 {
-    let mut f: usize = 0;
     let mut n = from;
     let mut at = place;
-    while f < form.len() {
+    for f in 0..form.len() {
         let x = form[f];
         at = put_item(out, at, x, word_at(values, n));
         n += count_of(x);
-        f += 1;
     }
     at
 }
@@ -333,9 +323,7 @@ pub(crate) fn copy_bytes(page: &[u8], n: usize, room: &mut [u8])
     requires { (n ≤ length page.now) × (n ≤ length room.old) }
     ensures { room.new ≡ take n page.now ++ drop n room.old }
 {
-    let mut i: usize = 0;
-    while i < n {
+    for i in 0..n {
         room[i] = page[i];
-        i += 1;
     }
 }

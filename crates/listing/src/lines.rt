@@ -122,11 +122,9 @@ fn stands(lows: &[u8; 816], highs: &[u8; 816], text: &[u8], at: usize, from: usi
     ensures { result ≡ true → Lines.Between lows.now highs.now text.now at from }
 {
     let mut good = true;
-    let mut j: usize = 0;
-    while j < 48 {
+    for j in 0..48 {
         let b = text[at + j];
         good = good & (lows[from + j] <= b) & (b <= highs[from + j]);
-        j += 1;
     }
     good
 }
@@ -264,10 +262,8 @@ fn put_part(bytes: &[u8], from: usize, n: usize, out: &mut [u8], at: usize) -> u
     requires { (from + n ≤ length bytes.now) × (at + n ≤ length out.old) }
     ensures { Places.Grown at result out.old out.new (take n (drop from bytes.now)) }
 {
-    let mut j: usize = 0;
-    while j < n {
+    for j in 0..n {
         out[at + j] = bytes[from + j];
-        j += 1;
     }
     at + n
 }

@@ -61,10 +61,8 @@ fn put_words(words: &mut [u32], place: usize, count: usize, numbers: &[u32]) -> 
     requires { (count ≤ length numbers.now) × (place + count ≤ length words.old) }
     ensures { Places.Grown place result words.old words.new (take count numbers.now) }
 {
-    let mut i: usize = 0;
-    while i < count {
+    for i in 0..count {
         words[place + i] = numbers[i];
-        i += 1;
     }
     place + count
 }

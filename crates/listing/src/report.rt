@@ -80,10 +80,8 @@ fn put_changes(before: &[u32], after: &[u32], page: &mut [u8], place: usize) -> 
     ensures { Places.Renders (Report.changes before.now after.now 384) place 11136 page.old page.new result }
 {
     let mut at = place;
-    let mut p: u32 = 0;
-    while p < 384 {
+    for p in 0..384u32 {
         at = put_change(before, after, p, page, at);
-        p += 1;
     }
     at
 }

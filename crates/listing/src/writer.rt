@@ -41,10 +41,8 @@ fn lines_length(list: &[u32]) -> usize
 {
     let count = list.len() / 6;
     let mut n: usize = 0;
-    let mut k: usize = 0;
-    while k < count {
+    for k in 0..count {
         n += line_length(list[6 * k]);
-        k += 1;
     }
     n
 }
@@ -56,10 +54,8 @@ fn put_lines(lows: &[u8; 816], list: &[u32], text: &mut [u8], place: usize) -> u
 {
     let count = list.len() / 6;
     let mut at = place;
-    let mut k: usize = 0;
-    while k < count {
+    for k in 0..count {
         at = put_line(lows, list, 6 * k, text, at);
-        k += 1;
     }
     at
 }

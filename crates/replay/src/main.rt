@@ -22,12 +22,10 @@ fn to_rewrite<E: Env>(rt: &E) -> bool {
     if length != 9 {
         return false;
     }
-    let mut i: usize = 0;
-    while i < 9 {
+    for i in 0..9 {
         if word[i] != REWRITE[i] {
             return false;
         }
-        i += 1;
     }
     true
 }

@@ -20,13 +20,11 @@ fn image_good(image: &[u32]) -> bool
     let mut flag: u32 = 0;
     let mut uses: u32 = 0;
     let mut misc: u32 = 0;
-    let mut n: usize = 0;
-    while n < 32 {
+    for n in 0..32 {
         config = config | word_at(image, LANE_CONFIG, n);
         flag = flag | word_at(image, LANE_FLAG, n);
         uses = uses | word_at(image, USE_FLAG, n);
         misc = misc | word_at(image, MISC, n);
-        n += 1;
     }
     well_formed(config, flag, uses, misc)
 }
@@ -135,8 +133,7 @@ fn scanned(list: &[u32]) -> Found
     ensures { result ≡ Checks.scanned list.now }
 {
     let count = list.len() / 6;
-    let mut k: usize = 0;
-    while k < count {
+    for k in 0..count {
         let answer = answer_of(insn_at(list, k));
         if answer != 0 {
             return Found {
@@ -144,7 +141,6 @@ fn scanned(list: &[u32]) -> Found
                 place: k as u32,
             };
         }
-        k += 1;
     }
     Found {
         answer: 0,

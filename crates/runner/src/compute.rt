@@ -61,10 +61,8 @@ fn word_rows(image: &mut [u32], op: u32, i: Insn, b: &[u32; 32], c: &[u32; 32], 
     requires { (length image.old ≡ 768) × (Rows.Enabled go.now image.old × (i.vd < 8)) }
     ensures { image.new ≡ Rows.storing image.old (λ L. Compute.word_with op i (slice_index b.now L) (slice_index c.now L) (lane_in image.old L)) }
 {
-    let mut n: usize = 0;
-    while n < 32 {
+    for n in 0..32 {
         word_put(image, n, op, i, b[n], c[n], go[n]);
-        n += 1;
     }
 }
 
@@ -114,10 +112,8 @@ fn flagged_rows(
     requires { (length image.old ≡ 768) × (Rows.Enabled go.old image.old × (i.vd < 8)) }
     ensures { (image.new ≡ Rows.storing image.old (λ L. Compute.flagged_with op i sets (slice_index b.now L) (slice_index c.now L) (lane_in image.old L))) × Rows.Enabled go.new image.new }
 {
-    let mut n: usize = 0;
-    while n < 32 {
+    for n in 0..32 {
         go[n] = flagged_put(image, n, op, i, sets, b[n], c[n], go[n]);
-        n += 1;
     }
 }
 
@@ -127,10 +123,8 @@ fn lz_counts(m: u32, c: &[u32; 32]) -> [u32; 32]
 {
     let limit = lz_limit(m);
     let mut counts = [0u32; 32];
-    let mut n: usize = 0;
-    while n < 32 {
+    for n in 0..32 {
         counts[n] = lz_count(limit, c[n]);
-        n += 1;
     }
     counts
 }

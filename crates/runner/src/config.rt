@@ -64,8 +64,7 @@ fn reached_masks(image: &[u32], i: Insn) -> [u32; 32]
     ensures { result ≡ ConfigRows.reached_in i image.now }
 {
     let mut masks = [0u32; 32];
-    let mut j: usize = 0;
-    while j < 8 {
+    for j in 0..8 {
         let uses = word_at(image, USE_FLAG, j);
         let flag = word_at(image, LANE_FLAG, j);
         let mask = full(!passed_over(i.md, i.imm, j as u8, uses, flag));
@@ -73,7 +72,6 @@ fn reached_masks(image: &[u32], i: Insn) -> [u32; 32]
         masks[8 + j] = mask;
         masks[16 + j] = mask;
         masks[24 + j] = mask;
-        j += 1;
     }
     masks
 }
@@ -84,14 +82,12 @@ fn config_values(image: &[u32], edition: u32, i: Insn) -> [u32; 32]
     ensures { result ≡ ConfigRows.columns (λ j. ConfigRows.config_value edition i (lane_in image.now j 0)) }
 {
     let mut values = [0u32; 32];
-    let mut j: usize = 0;
-    while j < 8 {
+    for j in 0..8 {
         let value = config_value(edition, i, word_at(image, 0, j));
         values[j] = value;
         values[8 + j] = value;
         values[16 + j] = value;
         values[24 + j] = value;
-        j += 1;
     }
     values
 }
@@ -101,11 +97,9 @@ fn config_rows(image: &mut [u32], slot: usize, i: Insn, masks: &[u32; 32], value
     requires { (length image.old ≡ 768) × ((slot < 24) × (masks.now ≡ ConfigRows.reached_in i image.old)) }
     ensures { image.new ≡ Rows.storing image.old (λ L. pick (ConfigRows.reached i (lane_in image.old (L % 8)) (L % 8)) ((slot, ConfigRows.written i.vd i.md (slice_index values.now L) (lane_in image.old L slot)) ∷ []) []) }
 {
-    let mut n: usize = 0;
-    while n < 32 {
+    for n in 0..32 {
         let word = written(i.vd, i.md, values[n], word_at(image, slot, n));
         put(image, slot, n, masks[n], word);
-        n += 1;
     }
 }
 

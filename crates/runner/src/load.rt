@@ -22,14 +22,12 @@ pub(crate) fn odd_row(image: &[u32], a: u16) -> [u32; 32]
 {
     let all = full(a / 2 % 2 == 1);
     let mut odds = [0u32; 32];
-    let mut j: usize = 0;
-    while j < 8 {
+    for j in 0..8 {
         let mask = all | full(word_at(image, LANE_CONFIG, j) / 32 % 2 == 1);
         odds[j] = mask;
         odds[8 + j] = mask;
         odds[16 + j] = mask;
         odds[24 + j] = mask;
-        j += 1;
     }
     odds
 }
@@ -40,10 +38,8 @@ fn pairs(dst: &[u16], at: usize) -> [u32; 64]
     ensures { result ≡ build 64 (λ k. slice_index dst.now (at + k)) }
 {
     let mut both = [0u32; 64];
-    let mut k: usize = 0;
-    while k < 64 {
+    for k in 0..64 {
         both[k] = dst[at + k] as u32;
-        k += 1;
     }
     both
 }
@@ -55,10 +51,8 @@ pub(crate) fn cells(dst: &[u16], at: usize, odds: &[u32; 32]) -> [u32; 32]
 {
     let both = pairs(dst, at);
     let mut got = [0u32; 32];
-    let mut n: usize = 0;
-    while n < 32 {
+    for n in 0..32 {
         got[n] = masked(odds[n], both[2 * n + 1], both[2 * n]);
-        n += 1;
     }
     got
 }
@@ -69,10 +63,8 @@ fn open_row(image: &[u32], go: &[u32; 128]) -> [u32; 32]
     ensures { result ≡ LoadRows.open_in image.now }
 {
     let mut opens = [0u32; 32];
-    let mut n: usize = 0;
-    while n < 32 {
+    for n in 0..32 {
         opens[n] = go[n] & full(!(word_at(image, LANE_CONFIG, n) / 2 % 2 == 1));
-        n += 1;
     }
     opens
 }
@@ -82,12 +74,10 @@ fn load_rows(image: &mut [u32], vd: usize, m: u32, got: &[u32; 32], opens: &[u32
     requires { (length image.old ≡ 768) × ((vd < 8) × (opens.now ≡ LoadRows.open_in image.old)) }
     ensures { image.new ≡ Rows.storing image.old (λ L. LoadRows.loaded_only vd m (slice_index got.now L % 65536) (lane_in image.old L)) }
 {
-    let mut n: usize = 0;
-    while n < 32 {
+    for n in 0..32 {
         let inf = word_at(image, LANE_CONFIG, n) % 2 == 1;
         let word = loaded(m, inf, word_at(image, vd, n), (got[n] % 65536) as u16);
         put(image, vd, n, opens[n], word);
-        n += 1;
     }
 }
 
@@ -123,12 +113,10 @@ fn capture_rows(
     ensures { (image.new ≡ Rows.storing image.old (λ L. LoadRows.captured_only vd (first + 2 * L + slice_index odds.now L % 2) (lane_in image.old L))) × (result ≡ LoadRows.caught_in vd image.old) }
 {
     let mut caught = [0u32; 32];
-    let mut n: usize = 0;
-    while n < 32 {
+    for n in 0..32 {
         let mask = opens[n] & full(captures(vd as u32, word_at(image, LANE_CONFIG, n)));
         put(image, vd + 4, n, mask, first + 2 * (n as u32) + odds[n] % 2);
         caught[n] = mask;
-        n += 1;
     }
     caught
 }
@@ -205,11 +193,9 @@ fn loadi_rows(image: &mut [u32], i: Insn, go: &[u32; 128])
     ensures { image.new ≡ Rows.storing image.old (λ L. Rules.loadi i (lane_in image.old L)) }
 {
     let vd = i.vd as usize;
-    let mut n: usize = 0;
-    while n < 32 {
+    for n in 0..32 {
         let word = immediate(i.md, i.imm, word_at(image, vd, n));
         put(image, vd, n, go[n], word);
-        n += 1;
     }
 }
 

@@ -22,10 +22,8 @@ fn inputs(image: &[u32]) -> [f32; 32]
     ensures { LutRows.Numbers (λ L. Rules.input_of (lane_in image.now L 3)) result }
 {
     let mut b = [0.0f32; 32];
-    let mut n: usize = 0;
-    while n < 32 {
+    for n in 0..32 {
         b[n] = float_of(input_bits(word_at(image, 3, n)));
-        n += 1;
     }
     b
 }
@@ -36,15 +34,13 @@ fn served(image: &[u32], b: &[f32; 32]) -> [u32; 32]
     ensures { result ≡ Rows.row (λ L. Rules.serving (slice_index_or b.now L nan) (lane_in image.now L 0) (lane_in image.now L 1) (lane_in image.now L 2)) }
 {
     let mut k = [0u32; 32];
-    let mut n: usize = 0;
-    while n < 32 {
+    for n in 0..32 {
         k[n] = serving(
             b[n],
             word_at(image, 0, n),
             word_at(image, 1, n),
             word_at(image, 2, n),
         );
-        n += 1;
     }
     k
 }
@@ -54,10 +50,8 @@ fn sums(b: &[f32; 32], k: &[u32; 32]) -> [f32; 32]
     ensures { LutRows.Numbers (λ L. Rules.sum_of (Rules.piece_of (slice_index k.now L)) (slice_index_or b.now L nan)) result }
 {
     let mut x = [0.0f32; 32];
-    let mut n: usize = 0;
-    while n < 32 {
+    for n in 0..32 {
         x[n] = sum_of(piece_of(k[n]), b[n]);
-        n += 1;
     }
     x
 }
@@ -115,12 +109,10 @@ fn answer_rows(
     requires { (length image.old ≡ 768) × (vd < 8) }
     ensures { image.new ≡ Rows.storing image.old (λ L. (vd, LutRows.stored_word (LutRows.answered m (slice_index r3.now L) (LutRows.is_set (slice_index act.now L)) vd (slice_index_or x.now L nan)) (slice_index old.now L)) ∷ []) }
 {
-    let mut n: usize = 0;
-    while n < 32 {
+    for n in 0..32 {
         let answer = lut_answer(act[n] != 0, vd, x[n]);
         let word = answer_word(m, r3[n], answer, old[n]);
         put(image, vd as usize, n, 0xFFFFFFFF, word);
-        n += 1;
     }
 }
 
@@ -138,15 +130,13 @@ fn answer_words(
     ensures { LutRows.Answers (λ L. LutRows.answered i.md (slice_index r3.now L) (Swap.acts i.vd (lane_in image.now L)) (lane_in image.now L 7 % 16) (slice_index_or x.now L nan)) (λ L. slice_index r0.now L) 32 result }
 {
     let mut words = [0u32; 96];
-    let mut n: usize = 0;
-    while n < 32 {
+    for n in 0..32 {
         let free = (i.vd < 12) | (word_at(image, LANE_CONFIG, n) / 16 % 2 == 1);
         let register = word_at(image, 7, n) % 16;
         let answer = lut_answer(free & (go[n] != 0), register, x[n]);
         words[n] = answer_word(i.md, r3[n], answer, r0[n]);
         words[32 + n] = answer_slot(answer);
         words[64 + n] = answer_mark(answer);
-        n += 1;
     }
     words
 }
@@ -156,11 +146,9 @@ fn scatter(image: &mut [u32], words: &[u32; 96])
     requires { (length image.old ≡ 768) × ((L : ℕ) → L < 32 → slice_index words.now (32 + L) < 8) }
     ensures { image.new ≡ Rows.storing image.old (λ L. (slice_index words.now (32 + L), slice_index words.now L) ∷ []) }
 {
-    let mut n: usize = 0;
-    while n < 32 {
+    for n in 0..32 {
         let slot = words[32 + n] as usize;
         put(image, slot, n, 0xFFFFFFFF, words[n]);
-        n += 1;
     }
 }
 

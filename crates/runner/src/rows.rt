@@ -53,10 +53,8 @@ pub(crate) fn copied(part: &[u32], at: usize) -> [u32; 32]
     ensures { result ≡ Rows.row (λ L. slice_index part.now (at + L)) }
 {
     let mut words = [0u32; 32];
-    let mut n: usize = 0;
-    while n < 32 {
+    for n in 0..32 {
         words[n] = part[at + n];
-        n += 1;
     }
     words
 }
@@ -75,10 +73,8 @@ pub(crate) fn enabled_row(image: &[u32], go: &mut [u32; 128])
     requires { (length image.now ≡ 768) × (length go.old ≡ 128) }
     ensures { Rows.Enabled go.new image.now }
 {
-    let mut n: usize = 0;
-    while n < 32 {
+    for n in 0..32 {
         go[n] = full(enabled(word_at(image, USE_FLAG, n), word_at(image, LANE_FLAG, n)));
-        n += 1;
     }
 }
 
@@ -87,13 +83,11 @@ pub(crate) fn fixed_rows() -> [u32; 128]
     ensures { result ≡ Rows.fixed_rows }
 {
     let mut rows = [0u32; 128];
-    let mut n: usize = 0;
-    while n < 32 {
+    for n in 0..32 {
         rows[n] = fixed_word(8, n as u8);
         rows[32 + n] = fixed_word(9, n as u8);
         rows[64 + n] = fixed_word(10, n as u8);
         rows[96 + n] = fixed_word(15, n as u8);
-        n += 1;
     }
     rows
 }

@@ -172,8 +172,7 @@ pub(crate) fn step_all(
     let mut stores = [0u32; 8];
     let mut owed: u32 = 0;
     let mut at = cursor;
-    let mut k: usize = 0;
-    while k < count {
+    for k in 0..count {
         let i = insn_at(list, k);
         if changes_flags(i.op, i.md) {
             step_flagged(i, image, &mut go, &fixed, owed, &mut stores);
@@ -195,7 +194,6 @@ pub(crate) fn step_all(
             at = next.cursor;
             owed = next.owed;
         }
-        k += 1;
     }
     count_enabled(&go, owed, &mut stores);
     Ended {

@@ -28,10 +28,8 @@ fn pairs_of(dst: &[u16], first: usize) -> [u32; 32]
     ensures { result ≡ Rows.row (λ L. StoreRows.pair_of (slice_index dst.now (first + 2 * L)) (slice_index dst.now (first + 2 * L + 1))) }
 {
     let mut both = [0u32; 32];
-    let mut n: usize = 0;
-    while n < 32 {
+    for n in 0..32 {
         both[n] = pair_at(dst, first + 2 * n);
-        n += 1;
     }
     both
 }
@@ -68,12 +66,10 @@ pub(crate) fn store_rows(
 {
     let first = 64 * ((a as usize) / 4);
     let old = pairs_of(dst, first);
-    let mut n: usize = 0;
-    while n < 32 {
+    for n in 0..32 {
         let cell = stored_cell(m, words[n]);
         let both = pair_after(go[n], odds[n], cell, old[n]);
         put_pair(dst, first + 2 * n, both);
-        n += 1;
     }
 }
 

@@ -39,8 +39,7 @@ fn swap_masks(
     ensures { (t.new ≡ Swaps.mask_rows (λ L. enabled (lane_in image.now L)) (λ L. Swaps.swaps_by always free mask L (slice_index c.now L) (slice_index d.now L) (lane_in image.now L)) (λ L. bit (lane_in image.now L 12) 2)) × (result ≡ 0 → Swaps.NoIndex t.new) }
 {
     let mut seen: u32 = 0;
-    let mut n: usize = 0;
-    while n < 32 {
+    for n in 0..32 {
         let config = word_at(image, LANE_CONFIG, n);
         let on = swap_mask(
             t[n],
@@ -56,7 +55,6 @@ fn swap_masks(
         t[64 + n] = on ^ index;
         t[96 + n] = index;
         seen = seen | index;
-        n += 1;
     }
     seen
 }
@@ -90,13 +88,11 @@ fn exchange(image: &mut [u32], p: usize, q: usize, t: &[u32; 128], a: usize, b: 
     requires { (length image.old ≡ 768) × (Rows.Masks 128 t.now × ((p ≢ q) × (((p < 24) × (q < 24)) × ((a ≤ 96) × (b ≤ 96))))) }
     ensures { image.new ≡ Rows.storing image.old (λ L. Swaps.exchanged p q (Rows.marked t.now (a + L)) (Rows.marked t.now (b + L)) (lane_in image.old L)) }
 {
-    let mut n: usize = 0;
-    while n < 32 {
+    for n in 0..32 {
         let x = word_at(image, p, n);
         let y = word_at(image, q, n);
         put(image, p, n, 0xFFFFFFFF, masked(t[a + n], y, x));
         put(image, q, n, 0xFFFFFFFF, masked(t[b + n], x, y));
-        n += 1;
     }
 }
 
@@ -105,10 +101,8 @@ fn store_part(image: &mut [u32], p: usize, t: &[u32; 128], a: usize, words: &[u3
     requires { (length image.old ≡ 768) × (Rows.Masks 128 t.now × ((p < 24) × (a ≤ 96))) }
     ensures { image.new ≡ Rows.storing image.old (λ L. Swaps.stored_under p (Rows.marked t.now (a + L)) (slice_index words.now L)) }
 {
-    let mut n: usize = 0;
-    while n < 32 {
+    for n in 0..32 {
         put(image, p, n, t[a + n], words[n]);
-        n += 1;
     }
 }
 

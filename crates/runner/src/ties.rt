@@ -41,14 +41,12 @@ fn count_columns(
     requires { (length image.now ≡ 768) × (Rows.Enabled go.now image.now × Steps.Room 4 ties.old) }
     ensures { ties.new ≡ Steps.counted ties.old (λ L. flag_of (Swaps.tied_by free (slice_index c.now L) (slice_index d.now L) (lane_in image.now L))) }
 {
-    let mut j: usize = 0;
-    while j < ties.len() {
+    for j in 0..ties.len() {
         ties[j] = ties[j]
             + tie_at(image, free, go, c, d, j)
             + tie_at(image, free, go, c, d, 8 + j)
             + tie_at(image, free, go, c, d, 16 + j)
             + tie_at(image, free, go, c, d, 24 + j);
-        j += 1;
     }
 }
 

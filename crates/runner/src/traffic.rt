@@ -36,10 +36,8 @@ pub(crate) fn count_marked(t: &[u32], at: usize, each: u32, stores: &mut [u32])
     requires { (at + 32 ≤ length t.now) × (Rows.MasksAt at t.now × Steps.Room (4 * each) stores.old) }
     ensures { (e : ℕ → Bool) → Rows.MarksAt at e t.now → stores.new ≡ Steps.counted stores.old (Steps.times each e) }
 {
-    let mut j: usize = 0;
-    while j < stores.len() {
+    for j in 0..stores.len() {
         stores[j] = stores[j] + each * marked_in(t, at, j);
-        j += 1;
     }
 }
 
@@ -48,14 +46,12 @@ pub(crate) fn count_enabled(go: &[u32; 128], each: u32, stores: &mut [u32])
     requires { (length go.now ≡ 128) × Steps.Room (4 * each) stores.old }
     ensures { (e : ℕ → Bool) → Rows.MarksAt 0 e go.now → stores.new ≡ Steps.counted stores.old (Steps.times each e) }
 {
-    let mut j: usize = 0;
-    while j < stores.len() {
+    for j in 0..stores.len() {
         stores[j] = stores[j]
             + (go[j] & each)
             + (go[8 + j] & each)
             + (go[16 + j] & each)
             + (go[24 + j] & each);
-        j += 1;
     }
 }
 

@@ -97,10 +97,8 @@ fn put_words(to: &mut [u32], at: usize, words: &[u32])
     requires { at + length words.now ≤ length to.old }
     ensures { to.new ≡ paste to.old at words.now (length words.now) }
 {
-    let mut n: usize = 0;
-    while n < words.len() {
+    for n in 0..words.len() {
         to[at + n] = words[n];
-        n += 1;
     }
 }
 

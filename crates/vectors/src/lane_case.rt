@@ -10,10 +10,8 @@ use std::io::{Read, Write};
 fn lane_words(image: &[u32; IMAGE], lane: u32) -> [u32; 24] {
     let first = (lane % 32) as usize;
     let mut words = [0u32; 24];
-    let mut slot: usize = 0;
-    while slot < 24 {
+    for slot in 0..24 {
         words[slot] = image[first + 32 * slot];
-        slot += 1;
     }
     words
 }

@@ -22,10 +22,8 @@ fn mixed(h: u32, w: u32) -> u32 {
 // The checksum of words that come after others.
 pub(crate) fn checksum(before: u32, words: &[u32]) -> u32 {
     let mut h = before;
-    let mut i: usize = 0;
-    while i < words.len() {
+    for i in 0..words.len() {
         h = mixed(h, words[i]);
-        i += 1;
     }
     h
 }
@@ -39,20 +37,16 @@ fn of_cell(cell: u16) -> u32
 // The checksum of cells that come after words.
 pub(crate) fn cell_checksum(before: u32, cells: &[u16]) -> u32 {
     let mut h = before;
-    let mut i: usize = 0;
-    while i < cells.len() {
+    for i in 0..cells.len() {
         h = mixed(h, of_cell(cells[i]));
-        i += 1;
     }
     h
 }
 
 pub(crate) fn byte_checksum(bytes: &[u8]) -> u32 {
     let mut h = NOTHING;
-    let mut i: usize = 0;
-    while i < bytes.len() {
+    for i in 0..bytes.len() {
         h = mixed(h, of_byte(bytes[i]));
-        i += 1;
     }
     h
 }
@@ -65,10 +59,8 @@ fn print_number<W: Write>(out: &mut W, n: u32) -> io::Result<()> {
 // A line: the case's kind, the numbers that were answered, and the checksum of what was lent.
 pub(crate) fn print<W: Write>(out: &mut W, kind: u32, numbers: &[u32], sum: u32) -> io::Result<()> {
     print_number(out, kind)?;
-    let mut i: usize = 0;
-    while i < numbers.len() {
+    for i in 0..numbers.len() {
         print_number(out, numbers[i])?;
-        i += 1;
     }
     writeln!(out, "{sum:08x}")
 }

@@ -44,10 +44,8 @@ fn slot_word(slot: usize, word: u32) -> u32 {
 }
 
 fn fill_image(x: &mut u32, image: &mut [u32; IMAGE]) {
-    let mut i: usize = 0;
-    while i < IMAGE {
+    for i in 0..IMAGE {
         image[i] = slot_word(i / 32, any_word(x));
-        i += 1;
     }
 }
 
@@ -56,10 +54,8 @@ pub(crate) fn put_change<R: Read>(input: &mut R, words: &mut [u32]) {
     let first = place(input, words.len());
     let end = first + at_most(place(input, words.len()), words.len() - first);
     let word = number(input);
-    let mut at = first;
-    while at < end {
+    for at in first..end {
         words[at] = word;
-        at += 1;
     }
 }
 
@@ -89,29 +85,23 @@ fn cell(x: &mut u32) -> u16 {
 // A Dst, from the state that its image left.
 pub(crate) fn make_dst(state: u32, dst: &mut [u16; DST]) {
     let mut x = state;
-    let mut i: usize = 0;
-    while i < DST {
+    for i in 0..DST {
         dst[i] = cell(&mut x);
-        i += 1;
     }
 }
 
 // The words from `period` on repeat those before it.
 fn repeat(list: &mut [u32; LIST], period: usize) {
-    let mut i = period;
-    while i < LIST {
+    for i in period..LIST {
         list[i] = list[i - period];
-        i += 1;
     }
 }
 
 // A list: how many words are given, and these, which repeat.
 pub(crate) fn make_list<R: Read>(input: &mut R, list: &mut [u32; LIST]) {
     let given = place(input, LIST);
-    let mut i: usize = 0;
-    while i < given {
+    for i in 0..given {
         list[i] = number(input);
-        i += 1;
     }
     repeat(list, given);
 }

@@ -28,10 +28,8 @@ fn copy(kept: &[u8; TEXT], from: usize, count: usize, text: &mut [u8; TEXT], to:
     let from = at_most(from, TEXT);
     let to = at_most(to, TEXT);
     let count = at_most(at_most(count, TEXT - from), TEXT - to);
-    let mut i: usize = 0;
-    while i < count {
+    for i in 0..count {
         text[to + i] = kept[from + i];
-        i += 1;
     }
     to + count
 }

@@ -1,8 +1,5 @@
-use Prim.Native.Nat.{◌-◌, ◌≤◌}
+use Prim.Native.Nat.{◌≤◌}
 use Rattle.replay.proofs.to_rewrite.Given as goal
 
 abbrev pub invariant-loop-i : goal.invariant-loop-i
 invariant-loop-i g l = l.i ≤ 9
-
-abbrev pub decreases-loop-i : goal.decreases-loop-i
-decreases-loop-i g l = 9 - l.i

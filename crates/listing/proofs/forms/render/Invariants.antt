@@ -1,10 +1,5 @@
-use Prim.Native.Nat.{◌-◌}
-use lib.ListN.{length}
 use Rattle.listing.proofs.Walks.{Rendering}
 use Rattle.listing.proofs.forms.render.Given as goal
 
 abbrev pub invariant-loop-f : goal.invariant-loop-f
 invariant-loop-f l = Rendering l.form l.values l.from l.place l.initial.out l.out l.f l.n l.at
-
-abbrev pub decreases-loop-f : goal.decreases-loop-f
-decreases-loop-f l = length l.form - l.f

@@ -1,4 +1,4 @@
-use Prim.Native.Nat.{◌≤◌, ◌+◌, ◌-◌}
+use Prim.Native.Nat.{◌≤◌, ◌+◌}
 use lib.ListN.{length, take}
 use mathlib.Core.Path.{◌≡◌}
 use Rattle.listing.specs.PrivatePlaces.{Grown}
@@ -6,6 +6,3 @@ use Rattle.listing.proofs.reader.put_words.Given as goal
 
 abbrev pub invariant-loop-i : goal.invariant-loop-i
 invariant-loop-i l = (l.i ≤ l.count) × (Grown l.place (l.place + l.i) l.initial.words l.words (take l.i l.numbers)) × (length l.words ≡ length l.initial.words)
-
-abbrev pub decreases-loop-i : goal.decreases-loop-i
-decreases-loop-i l = l.count - l.i

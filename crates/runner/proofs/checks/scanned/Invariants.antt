@@ -4,6 +4,3 @@ use Rattle.runner.proofs.checks.scanned.Given as goal
 
 abbrev pub invariant-loop-k : goal.invariant-loop-k
 invariant-loop-k l = (l.k ≤ l.count) × (scan l.list 0 l.count ≡ scan l.list l.k (l.count - l.k))
-
-abbrev pub decreases-loop-k : goal.decreases-loop-k
-decreases-loop-k l = l.count - l.k

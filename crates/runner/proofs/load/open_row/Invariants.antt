@@ -1,4 +1,4 @@
-use Rattle.std.proofs.Common.{ℕ, ◌-◌}
+use Rattle.std.proofs.Common.{ℕ}
 use Rattle.runner.proofs.Filled.{Filled}
 use Rattle.runner.specs.Image.{lane_in}
 use Rattle.runner.specs.PrivateLoad.{is_open}
@@ -7,6 +7,3 @@ use Rattle.runner.proofs.load.open_row.Given as goal
 
 abbrev pub invariant-loop-n : goal.invariant-loop-n
 invariant-loop-n l = Filled (λ (L : ℕ). full (is_open (lane_in l.image L))) l.n l.opens
-
-abbrev pub decreases-loop-n : goal.decreases-loop-n
-decreases-loop-n l = 32 - l.n

@@ -28,10 +28,6 @@ slice_bounds-step_lanes-end-else-changes_flags c = sym c.loop-k.invariant.1.eigh
 pub step_lanes-next-requires : goal.step_lanes-next-requires
 step_lanes-next-requires c = let inv = c.loop-k.invariant in let pre = c.requires in (inv.1.long, (inv.1.dst_long, (inv.1.enabled_is, ((c.fixed_rows-fixed.ensures, refl), ((room_left _ _ _ _ _ (omega (arith, inv.0, pre.1.1)) inv.1.ties_is, room_owed _ _ _ _ _ _ _ (omega (arith, inv.0, pre.1.1)) inv.1.few inv.1.eight inv.1.stores_is), sym c.changes_flags.ensures ∙ c.if-changes_flags.false)))))
 
-pub overflow_add-k : goal.overflow_add-k
-overflow_add-k c = omega (arith, c.loop-k-test.true, c.loop-k.invariant.0, c.requires.1.1)
-
--- the two ways to the turn's end: flags may have changed, or not
 pub loop-k-preserved : goal.loop-k-preserved
 loop-k-preserved c =
     let inv = c.loop-k.invariant.1 in

@@ -41,12 +41,6 @@ overflow_add-j-in-loop-j c = omega (arith, c.loop-j-test.true, c.loop-j.invarian
 pub overflow_add-j-in-loop-j-2 : goal.overflow_add-j-in-loop-j-2
 overflow_add-j-in-loop-j-2 c = omega (arith, c.loop-j-test.true, c.loop-j.invariant.long)
 
-pub overflow_add-j-in-loop-j-3 : goal.overflow_add-j-in-loop-j-3
-overflow_add-j-in-loop-j-3 c = omega (arith, c.loop-j-test.true, c.loop-j.invariant.long)
-
-pub loop-j-smaller : goal.loop-j-smaller
-loop-j-smaller c = omega (arith, c.loop-j-test.true, c.loop-j.invariant.long)
-
 pub loop-j-preserved : goal.loop-j-preserved
 loop-j-preserved c = counting_more _ _ _ _ _ (omega (arith, c.loop-j-test.true, c.loop-j.invariant.long)) c.loop-j.invariant (column_sum (λ (L : ℕ). flag_of (tied_by c.args.free (get_or c.args.c.now L 0) (get_or c.args.d.now L 0) (lane_in c.args.image.now L))) _ _ _ _ _ _ c.tie_at.ensures c.tie_at-in-loop-j.ensures c.tie_at-in-loop-j-2.ensures c.tie_at-in-loop-j-3.ensures)
 

@@ -40,12 +40,6 @@ bounds-go-j-in-loop-j-3 c = omega (arith, c.loop-j-test.true, c.loop-j.invariant
 pub overflow_add-stores-in-loop-j-6 : goal.overflow_add-stores-in-loop-j-6
 overflow_add-stores-in-loop-j-6 c = omega (arith, room_kept _ _ _ _ _ (omega (arith, c.loop-j-test.true, c.loop-j.invariant.long)) c.requires.1 c.loop-j.invariant, and_le_r (get_or c.args.go.now c.loop-j.j 0) c.args.each, and_le_r (get_or c.args.go.now (8 + c.loop-j.j) 0) c.args.each, and_le_r (get_or c.args.go.now (16 + c.loop-j.j) 0) c.args.each, and_le_r (get_or c.args.go.now (24 + c.loop-j.j) 0) c.args.each)
 
-pub overflow_add-j : goal.overflow_add-j
-overflow_add-j c = omega (arith, c.loop-j-test.true, c.loop-j.invariant.long)
-
-pub loop-j-smaller : goal.loop-j-smaller
-loop-j-smaller c = omega (arith, c.loop-j-test.true, c.loop-j.invariant.long)
-
 pub loop-j-preserved : goal.loop-j-preserved
 loop-j-preserved c = let go = c.args.go.now in let each = c.args.each in let j = c.loop-j.j in counting_more _ _ _ _ _ (omega (arith, c.loop-j-test.true, c.loop-j.invariant.long)) c.loop-j.invariant (column_sum (λ (L : ℕ). bit_and (get_or go (0 + L) 0) each) j _ _ _ _ _ (first_mask go each j) (first_mask go each (8 + j)) (first_mask go each (16 + j)) (first_mask go each (24 + j)))
 

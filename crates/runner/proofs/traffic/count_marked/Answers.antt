@@ -16,12 +16,6 @@ overflow_mul-stores c = omega (arith, column_few c.args.each _ (λ (L : ℕ). ma
 pub overflow_add-stores : goal.overflow_add-stores
 overflow_add-stores c = omega (arith, column_few c.args.each _ (λ (L : ℕ). marked c.args.t.now (c.args.at + L)) _ c.marked_in.ensures, room_kept _ _ _ _ _ (omega (arith, c.loop-j-test.true, c.loop-j.invariant.long)) c.requires.1.1 c.loop-j.invariant)
 
-pub overflow_add-j : goal.overflow_add-j
-overflow_add-j c = omega (arith, c.loop-j-test.true, c.loop-j.invariant.long)
-
-pub loop-j-smaller : goal.loop-j-smaller
-loop-j-smaller c = omega (arith, c.loop-j-test.true, c.loop-j.invariant.long)
-
 pub loop-j-preserved : goal.loop-j-preserved
 loop-j-preserved c = counting_more _ _ _ _ _ (omega (arith, c.loop-j-test.true, c.loop-j.invariant.long)) c.loop-j.invariant (each_column _ _ _ (λ (L : ℕ). marked c.args.t.now (c.args.at + L)) _ c.marked_in.ensures)
 
