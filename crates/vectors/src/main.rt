@@ -7,6 +7,8 @@
 mod form;
 // Images, Dsts and lists.
 mod made;
+// The text that is written, and those that are read.
+mod text;
 // The lines and the checksums in them.
 mod lines;
 // A list over an image and a Dst.
@@ -20,55 +22,31 @@ mod reading_case;
 // A list stepped forward and back.
 mod walk_case;
 
-ghost use Rattle.std.specs.Prelude.{◌≤◌};
-
-use form::number;
+use form::{Kind, number};
 use lane_case::lane_case;
-use reading_case::{TEXT, reading_case};
+use reading_case::reading_case;
 use run_case::run_case;
 use std::io;
 use std::io::{Read, Write};
+use text::{TEXT, Text};
 use walk_case::walk_case;
 use writing_case::writing_case;
 
-// How much of a room is lent: never more than it has.
-fn at_most(length: usize, most: usize) -> usize
-    ensures within_room { result ≤ most }
-    ensures within_length { result ≤ length }
-{
-    if length < most { length } else { most }
-}
-
-// A case of any kind; the length of the text that is kept for the readings after it, which is what was last written.
-fn one_case<R: Read, W: Write>(
-    input: &mut R,
-    out: &mut W,
-    kind: u32,
-    kept: &mut [u8; TEXT],
-    length: u32,
-) -> io::Result<u32> {
-    match kind {
-        1 => run_case(input, out)?,
-        2 => lane_case(input, out)?,
-        3 => return writing_case(input, out, kept),
-        5 => walk_case(input, out)?,
-        _ => reading_case(input, out, kept, length)?,
-    }
-    Ok(length)
-}
-
-// Cases to the end of the input.
+// Cases to the end of the input. What was last written is kept for the readings after it.
 fn run_cases<R: Read, W: Write>(input: &mut R, out: &mut W) -> io::Result<()> {
-    let mut kept = [0u8; TEXT];
-    let mut length: u32 = 0;
-    let mut left: u32 = 4294967295;
-    while left > 0 {
-        let kind = number(input);
-        if kind == 0 {
-            return Ok(());
+    let mut kept = Text {
+        bytes: [0; TEXT],
+        length: 0,
+    };
+    for _ in 0..u32::MAX {
+        match Kind::from(number(input)) {
+            Kind::End => return Ok(()),
+            Kind::Run => run_case(input, out)?,
+            Kind::Lane => lane_case(input, out)?,
+            Kind::Writing => writing_case(input, out, &mut kept)?,
+            Kind::Reading => reading_case(input, out, &kept)?,
+            Kind::Walk => walk_case(input, out)?,
         }
-        length = one_case(input, out, kind, &mut kept, length)?;
-        left -= 1;
     }
     Ok(())
 }

@@ -1,7 +1,5 @@
+use Rattle.std.proofs.Common.{◌≤◌}
 use Rattle.vectors.proofs.reading_case.make_text.Given as goal
 
-abbrev pub invariant-loop-left : goal.invariant-loop-left
-invariant-loop-left g l = Unit {0}
-
-abbrev pub decreases-loop-left : goal.decreases-loop-left
-decreases-loop-left g l = l.left
+abbrev pub invariant-loop : goal.invariant-loop
+invariant-loop g l = l.from ≤ 1048700
