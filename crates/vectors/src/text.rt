@@ -1,5 +1,6 @@
 // A room for a text.
 ghost use Rattle.std.specs.Prelude.{◌≤◌};
+ghost use Rattle.vectors.specs.declared.text.TheConstants.{TEXT};
 
 use crate::form::{number, place};
 use std::io::Read;
@@ -12,7 +13,7 @@ pub const TEXT: usize = 1048700;
 pub(crate) struct Text {
     pub bytes: [u8; TEXT],
     pub length: usize,
-    ghost within: { length ≤ 1048700 },
+    ghost within: { length ≤ TEXT },
 }
 
 impl Text {

@@ -1,5 +1,7 @@
 // Walk cases: a list stepped forward and back, and what a host may change between the steps.
 ghost use Rattle.std.specs.Prelude.{◌≤◌};
+ghost use Rattle.vectors.specs.declared.made.TheConstants.{IMAGE, DST, LIST};
+ghost use Rattle.vectors.specs.declared.walk_case.TheConstants.{STORE};
 
 use crate::form::{Kind, number, numbers, place};
 use crate::lines::{NOTHING, checksum, print};
@@ -18,10 +20,10 @@ struct Lengths {
     dst: usize,
     list: usize,
     store: usize,
-    ghost image_within: { image ≤ 1024 },
-    ghost dst_within: { dst ≤ 16400 },
-    ghost list_within: { list ≤ 98400 },
-    ghost store_within: { store ≤ 32090 },
+    ghost image_within: { image ≤ IMAGE },
+    ghost dst_within: { dst ≤ DST },
+    ghost list_within: { list ≤ LIST },
+    ghost store_within: { store ≤ STORE },
 }
 
 impl Lengths {
@@ -60,6 +62,7 @@ struct Walking {
 impl Walking {
     // A step over as much of each array as is lent then; the checksum goes on over what it answers and leaves.
     fn step(&mut self, step: Step) {
+        // Each array is lent whole and then in part: a part of a field's array is not covered by the borrow checker in one step.
         let settings = &self.host.settings;
         let image = &mut self.host.image[..];
         let image = &mut image[..self.lent.image];

@@ -17,9 +17,9 @@ pub(crate) fn writing_case<R: Read, W: Write>(
     let mut list = [0u32; LIST];
     make_list(input, &mut list);
     let list = &list[..place(input, LIST)];
-    let count = place(input, TEXT);
+    // The room is lent whole and then in part: a part of a field's array is not covered by the borrow checker in one step.
     let room = &mut kept.bytes[..];
-    let room = &mut room[..count];
+    let room = &mut room[..place(input, TEXT)];
     let mut outcome = [0u32; 5];
     replay_write(&settings, list, room, &mut outcome);
     let sum = checksum(NOTHING, room);
