@@ -8,26 +8,18 @@
 
 mod input;
 
-use std::rt::Env;
+ghost use Rattle.std.specs.Prelude.{◌≤◌, length};
 
-const REWRITE: [u8; 9] = *b"--rewrite";
+use listing::program::{replay, rewrite};
+use std::rt::Env;
 
 // Whether the program's argument is that word.
 fn to_rewrite<E: Env>(rt: &E) -> bool {
     let mut word = [0u8; 9];
-    let length = match rt.arg(1, &mut word) {
-        Ok(n) => n,
-        Err(_) => 0,
-    };
-    if length != 9 {
-        return false;
+    match rt.arg(1, &mut word) {
+        Ok(9) => word == *b"--rewrite",
+        _ => false,
     }
-    for i in 0..9 {
-        if word[i] != REWRITE[i] {
-            return false;
-        }
-    }
-    true
 }
 
 // What can't be written to standard error either is not said at all.
@@ -37,34 +29,26 @@ fn put<P: Print + Eprint>(rt: &P, bytes: &[u8]) {
     }
 }
 
-// Replays a listing that was read whole.
-fn print_report<P: Print + Eprint>(rt: &P, text: &[u8]) {
-    let mut room = [0u8; 11190];
-    let printed = listing::program::replay(text, &mut room);
-    let length = printed.length;
-    put(rt, &room[..length]);
-}
-
-// Writes it again; 114 bytes for the head, and 45 at most for each of 1,024 lines.
-fn print_rewritten<P: Print + Eprint>(rt: &P, text: &[u8]) {
-    let mut room = [0u8; 46194];
-    let printed = listing::program::rewrite(text, &mut room);
-    let length = printed.length;
-    put(rt, &room[..length]);
+// Replays a listing that was read whole, or writes it again: how many bytes of the room that takes.
+fn output(text: &[u8], rewritten: bool, room: &mut [u8]) -> usize
+    ensures { result ≤ length room.new }
+{
+    if rewritten {
+        rewrite(text, room).length
+    } else {
+        replay(text, room).length
+    }
 }
 
 fn main(rt: HostRuntime) {
     // One byte more than a listing may have, so that a longer one is seen to be longer and not cut.
     let mut text = [0u8; 65537];
-    let got = input::read_all(&mut rt.stdin(), &mut text);
-    let n = got.length;
-    if !got.whole {
+    let Ok(length) = input::read_all(&mut rt.stdin(), &mut text) else {
         let _ = rt.eprintln("can't read: a read of standard input failed");
         return;
-    }
-    if to_rewrite(&rt) {
-        print_rewritten(&rt, &text[..n]);
-    } else {
-        print_report(&rt, &text[..n]);
-    }
+    };
+    // A report takes 11,190 bytes at most, and what is rewritten 114 for the head and 45 for each of 1,024 lines.
+    let mut room = [0u8; 46194];
+    let taken = output(&text[..length], to_rewrite(&rt), &mut room);
+    put(&rt, &room[..taken]);
 }
