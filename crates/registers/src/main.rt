@@ -10,15 +10,14 @@ ghost use Rattle.registers.specs.Put.{with_lane};
 use runner::view::{register_count, register_lanes, register_lanes_mut, register_start};
 use std::io;
 
-// Writes a word to a lane of a register, where there is one: the register's part is lent here, so that its words are known afterwards.
+// Writes a word to a lane of a register, where there is one: by its place in the image, so that the image is known afterwards.
+#[tactic(auto, using(runner::proofs::Views::part_within, runner::proofs::Views::part_small))]
 fn put(image: &mut [u32], r: u32, lane: usize, word: u32)
     ensures { image.new ≡ with_lane image.old r lane word }
 {
     let at = register_start(image.len(), r);
-    let count = register_count(image.len(), r);
-    if lane < count {
-        let lanes = &mut image[at..at + count];
-        lanes[lane] = word;
+    if lane < register_count(image.len(), r) {
+        image[at + lane] = word;
     }
 }
 
@@ -26,20 +25,14 @@ fn put(image: &mut [u32], r: u32, lane: usize, word: u32)
 fn get(image: &[u32], r: u32, lane: usize) -> u32
     ensures { result ≡ get_or (view image.now r) lane 0 }
 {
-    let lanes = register_lanes(image, r);
-    if lane < lanes.len() { lanes[lane] } else { 0 }
+    register_lanes(image, r).get(lane).copied().unwrap_or(0)
 }
 
 // Writes a word to a lane of the view that the runner hands out.
 fn put_through(image: &mut [u32], r: u32, lane: usize, word: u32) {
-    let lanes = register_lanes_mut(image, r);
-    if lane < lanes.len() {
-        lanes[lane] = word;
+    if let Some(at) = register_lanes_mut(image, r).get_mut(lane) {
+        *at = word;
     }
-}
-
-fn line<P: Print>(rt: &P, n: u32) -> io::Result<()> {
-    println!(rt; "{n}")
 }
 
 fn main(rt: HostRuntime) -> io::Result<()> {
@@ -48,8 +41,8 @@ fn main(rt: HostRuntime) -> io::Result<()> {
     put(&mut image, 8, 3, 7);
     put_through(&mut image, 11, 4, 6);
     // Register 11 is slot 8: its lanes 3 and 4 are words 259 and 260.
-    line(&rt, get(&image, 11, 3))?;
-    line(&rt, image[259])?;
-    line(&rt, image[260])?;
-    line(&rt, get(&image, 8, 3))
+    println!(rt; "{}", get(&image, 11, 3))?;
+    println!(rt; "{}", image[259])?;
+    println!(rt; "{}", image[260])?;
+    println!(rt; "{}", get(&image, 8, 3))
 }
