@@ -11,7 +11,7 @@ use Rattle.lane.specs.Load.{next_cursor, meets_dst}
 use Rattle.lane.specs.Refusals.{settings_good, instruction_answer}
 use Rattle.lane.proofs.Cases.{pick_lt}
 use Rattle.lane.proofs.Accepted.{settings_in_range, in_range_settings}
-use Rattle.runner.specs.declared.Found.{Found}
+use Rattle.runner.specs.Checks.{Found}
 use Rattle.runner.specs.declared.Outcome.{Outcome}
 use Rattle.runner.specs.Checks.{count_of, list_limit, run_answer}
 use Rattle.runner.specs.Run.{Machine, stepped, steps, begin, finish, ties_by, stores_by, when_done, Ran}

@@ -22,7 +22,7 @@ use Rattle.lane.proofs.Cases.{pick_false}
 use Rattle.lane.proofs.Counted.{none_count}
 use Rattle.lane.proofs.Tables.{below_all}
 use Rattle.lane.proofs.Stores.{length_build, get_d_build, upd_other}
-use Rattle.runner.specs.declared.Found.{Found}
+use Rattle.runner.specs.Checks.{Found}
 use Rattle.runner.specs.declared.Outcome.{Outcome}
 use Rattle.runner.specs.Image.{lane_in, of_lanes}
 use Rattle.runner.specs.Checks.{insn_at, run_answer}

@@ -18,7 +18,7 @@ use Rattle.lane.specs.Refusals.{pass, fields_good, instruction_answer}
 use Rattle.lane.proofs.Places.{even_place}
 use Rattle.lane.proofs.Cases.{pick_lt}
 use Rattle.lane.proofs.Stores.{length_build, get_d_build}
-use Rattle.runner.specs.declared.Found.{Found}
+use Rattle.runner.specs.Checks.{Found}
 use Rattle.runner.specs.Image.{lane_in, of_lanes}
 use Rattle.runner.specs.Checks.{insn_at, run_answer}
 use Rattle.runner.specs.Run.{cells_after, dst_at, dst_after, stepped, steps, begin}

@@ -8,11 +8,11 @@ use mathlib.Core.Bool.{Bool, true, false, ◌&&◌, ◌||◌}
 use mathlib.Core.List.{[], ◌∷◌, ◌++◌}
 use lib.Bits.{and_lt, or_lt, xor_lt}
 use lib.Ieee.{Float}
+use Rattle.std.proofs.Common.{Some, None}
 use lib.Dec.{ltb, eqb}
 use borrow.Author.Tests.{ltb-true, ltb-false, lt-ltb}
 use Rattle.lane.specs.declared.Settings.{Settings}
 use Rattle.lane.specs.declared.Insn.{Insn}
-use Rattle.lane.specs.declared.LutAnswer.TheVariants.{Number, Nothing}
 use Rattle.lane.specs.Words.{pick, has, bit, flag_of, Lane, Stores, lane_config, lane_flag, use_flag, misc, enabled, upd, after}
 use Rattle.lane.specs.Load.{load_with, load, loadi, loads, captures}
 use Rattle.lane.specs.Swap.{acts, below, plain_swap, index_swap, index_of, swap_with, swap}
@@ -118,7 +118,7 @@ fit_loadi : (i : Insn) (own : Lane) → AllFit (loadi i own)
 unfolding loadi
 fit_loadi i own = fit_when (ltb i.vd 8 && enabled own) _ (λ e. (fit_register i.vd _ (vd_below i.vd 8 _ e), tt))
 
-fit_answer : (m r3 r : ℕ) (x : Float) (t : Bool) → (t ≡ true → r < 8) → AllFit (lut_stores m r3 (pick t (Number x r) Nothing))
+fit_answer : (m r3 r : ℕ) (x : Float) (t : Bool) → (t ≡ true → r < 8) → AllFit (lut_stores m r3 (pick t (Some (x, r)) None))
 unfolding pick
 fit_answer m r3 r x true h = (fit_register r _ (h refl), tt)
 fit_answer m r3 r x false h = tt

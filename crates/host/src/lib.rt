@@ -3,7 +3,7 @@
 //
 // Every function here is total: it has a promise that settles its answer and every lent word, and no `requires`.
 
-#![tactic(auto)]
+#![tactic(auto, using(crate::proofs::Lengths::read_fits, crate::proofs::Lengths::write_fits), unfolding(listing::specs::Listing::settings_of, crate::specs::Words::insn_of, crate::specs::Words::walk_of, crate::specs::Words::begun_words, crate::specs::Words::walk_begun, crate::specs::Words::cells_words, crate::specs::Words::settings_words, crate::specs::Words::reading_words, crate::specs::Words::writing_words, lane::specs::Words::pick))]
 
 ghost use Rattle.std.specs.Prelude.{◌≡◌, length, get_or};
 ghost use Rattle.lane.specs.Refusals.{lane_step};
@@ -16,9 +16,9 @@ ghost use Rattle.listing.specs.Report.{reported, reporting};
 ghost use Rattle.host.specs.Words.{settings_words, insn_of, outcome_words, begun_words, walk_of, walk_begun, cells_words, reading_words, writing_words, version};
 
 use lane::step::step_lane;
-use lane::{Insn, Settings};
+use lane::{Cells, Insn, Settings};
 use listing::program::replay;
-use listing::reader::{read, settings_of};
+use listing::reader::read;
 use listing::writer::write;
 use runner::run::run;
 use runner::view::{register_count, register_start};
@@ -26,20 +26,6 @@ use runner::walk::{Walk, back, begin, forward};
 
 // What the library replays, as specs/ counts it.
 const VERSION: u32 = 1106;
-
-// An instruction, from six words in the list's order.
-fn insn_of(words: &[u32; 6]) -> Insn
-    ensures { result ≡ insn_of words.now }
-{
-    Insn {
-        op: words[0],
-        imm: words[1],
-        vb: words[2],
-        vc: words[3],
-        vd: words[4],
-        md: words[5],
-    }
-}
 
 // A run of a list over an image and a Dst: a refusal leaves both as they were. The answer is returned, and stands first in `outcome`; the ties of the
 // columns, and then their stores, stand last.
@@ -55,25 +41,11 @@ pub fn replay_run(
     ensures image_after { image.new ≡ run_image (settings_of settings.now) image.old dst.old list.now }
     ensures dst_after { dst.new ≡ run_dst (settings_of settings.now) image.old dst.old list.now }
 {
-    let o = run(settings_of(settings), image, dst, list);
-    let ties = o.ties;
-    let stores = o.stores;
-    *outcome = [
-        o.answer, o.steps, o.place, o.cursor, ties[0], ties[1], ties[2], ties[3], ties[4], ties[5],
-        ties[6], ties[7], stores[0], stores[1], stores[2], stores[3], stores[4], stores[5],
-        stores[6], stores[7],
-    ];
+    let o = run(Settings::from(*settings), image, dst, list);
+    outcome[..4].copy_from_slice(&[o.answer, o.steps, o.place, o.cursor]);
+    outcome[4..12].copy_from_slice(&o.ties);
+    outcome[12..].copy_from_slice(&o.stores);
     o.answer
-}
-
-// A walk, from two words.
-fn walk_of(words: &[u32; 2]) -> Walk
-    ensures { result ≡ walk_of words.now }
-{
-    Walk {
-        at: words[0],
-        cursor: words[1],
-    }
 }
 
 // The start of a walk over a list: the checks of a run, and no step done. A refusal leaves `walk` as it was.
@@ -89,16 +61,13 @@ pub fn replay_begin(
     ensures outcome_after { outcome.new ≡ begun_words (Walks.begun (settings_of settings.now) image.now dst.now list.now) }
     ensures walk_after { walk.new ≡ walk_begun (Walks.begun (settings_of settings.now) image.now dst.now list.now) walk.old }
 {
-    let b = begin(settings_of(settings), image, dst, list);
-    let answer = b.answer;
-    let w = b.walk;
-    *outcome = [answer, 0, b.place, w.cursor];
-    let accepted = answer == 0;
+    let b = begin(Settings::from(*settings), image, dst, list);
+    *outcome = [b.answer, 0, b.place, b.walk.cursor];
+    let accepted = b.answer == 0;
     if accepted {
-        *walk = [w.at, w.cursor];
-        return answer;
+        *walk = <[u32; 2]>::from(b.walk);
     }
-    answer
+    b.answer
 }
 
 // A step forward, its entry kept in `store`: a refusal leaves all that is lent as it was.
@@ -113,19 +82,18 @@ pub fn replay_forward(
     ensures { Walks.Called Walks.forward (settings_of settings.now) list.now (Walks.standing (walk_of walk.old) image.old dst.old store.old) result (Walks.standing (walk_of walk.new) image.new dst.new store.new) }
 {
     let stepped = forward(
-        settings_of(settings),
-        walk_of(walk),
+        Settings::from(*settings),
+        Walk::from(*walk),
         image,
         dst,
         list,
         store,
     );
-    let after = stepped.walk;
-    *walk = [after.at, after.cursor];
+    *walk = <[u32; 2]>::from(stepped.walk);
     stepped.answer
 }
 
-// A step back, by its entry in `store`: a refusal leaves all that is lent as it was.
+// A step back, by its entry in `store`: a refusal leaves all that is lent as it was. It and `replay_forward` are two, since the C interface has both.
 pub fn replay_back(
     settings: &[u32; 8],
     image: &mut [u32],
@@ -137,15 +105,14 @@ pub fn replay_back(
     ensures { Walks.Called Walks.back (settings_of settings.now) list.now (Walks.standing (walk_of walk.old) image.old dst.old store.old) result (Walks.standing (walk_of walk.new) image.new dst.new store.new) }
 {
     let stepped = back(
-        settings_of(settings),
-        walk_of(walk),
+        Settings::from(*settings),
+        Walk::from(*walk),
         image,
         dst,
         list,
         store,
     );
-    let after = stepped.walk;
-    *walk = [after.at, after.cursor];
+    *walk = <[u32; 2]>::from(stepped.walk);
     stepped.answer
 }
 
@@ -163,13 +130,15 @@ pub fn replay_lane(
     ensures cells_after { cells.new ≡ cells_words (lane_step (settings_of settings.now) lane (insn_of insn.now) own.old head.now (get_or cells.old 0 0) (get_or cells.old 1 0)).cells }
 {
     let stepped = step_lane(
-        settings_of(settings),
+        Settings::from(*settings),
         lane,
-        insn_of(insn),
+        Insn::from(*insn),
         *own,
         *head,
-        cells[0],
-        cells[1],
+        Cells {
+            even: cells[0],
+            odd: cells[1],
+        },
     );
     let words = stepped.words;
     let after = stepped.cells;
@@ -191,10 +160,7 @@ pub fn replay_read(
     ensures list_after { list.new ≡ in_front (read_text (length list.old) text.now).list list.old }
 {
     let got = read(text, list);
-    let s = got.settings;
-    *settings = [
-        s.edition, s.srcb, s.offset, s.cursor, s.stride0, s.stride1, s.stride2, s.stride3,
-    ];
+    *settings = <[u32; 8]>::from(got.settings);
     *outcome = [
         got.answer,
         got.steps,
@@ -216,7 +182,7 @@ pub fn replay_write(
     ensures outcome_after { outcome.new ≡ writing_words (write_list (length text.old) (settings_of settings.now) list.now).writing }
     ensures text_after { text.new ≡ in_front (write_list (length text.old) (settings_of settings.now) list.now).bytes text.old }
 {
-    let put = write(settings_of(settings), list, text);
+    let put = write(Settings::from(*settings), list, text);
     *outcome = [
         put.answer,
         put.steps,

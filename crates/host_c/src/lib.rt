@@ -1,5 +1,5 @@
 // The library for C hosts, and for hosts in what calls C: each function of crates/host under its own name, with the same promises. include/replay.h
-// declares them.
+// declares them. They are functions of their own for the C interface: a host in Rattle calls those, and C finds what is exported here.
 
 #![tactic(auto)]
 

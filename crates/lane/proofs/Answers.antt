@@ -1,13 +1,30 @@
 -- The lane rules' answer, words and cells together. Assumes nothing.
-use Rattle.std.proofs.Common.{◌≡◌, ℕ, ◌≤◌, Bool, true, false, not, ◌&&◌, eqb, leb, List, sym, refl, ◌∙◌, eq-eqb, ne_eqb, leb-true}
+use Rattle.std.proofs.Common.{◌≡◌, ℕ, ◌≤◌, Bool, true, false, not, ◌&&◌, eqb, leb, List, sym, refl, ◌∙◌, eq-eqb, ne_eqb, leb-true, arith}
 use borrow.Author.Tests.{eqb-false}
 use Rattle.lane.specs.declared.Cells.{Cells}
+use Rattle.lane.specs.declared.Refusal.{Refusal}
+use Rattle.lane.specs.declared.Refusal.TheVariants.{ImageSize, DstSize, Setting, ListShape, ListLimit, ImageForm, UnknownOp, Field, LoadMod, Text, Room, Step}
 use Rattle.lane.specs.declared.Stepped.{Stepped}
 use Rattle.lane.specs.declared.Settings.{Settings}
 use Rattle.lane.specs.declared.Insn.{Insn}
 use Rattle.lane.specs.Words.{pick, Lane}
-use Rattle.lane.specs.Refusals.{pass, instruction_answer, lane_answer, settings_good, well_formed, op_known, fields_good, wide_load}
+use Rattle.lane.specs.Refusals.{number, pass, instruction_answer, lane_answer, settings_good, well_formed, op_known, fields_good, wide_load}
 use Rattle.lane.proofs.Cases.{pick_true, pick_false}
+
+-- no refusal has the number 0
+pub numbered : (why : Refusal) → number why ≡ 0 → ⊥
+numbered ImageSize h = omega (arith, h)
+numbered DstSize h = omega (arith, h)
+numbered Setting h = omega (arith, h)
+numbered ListShape h = omega (arith, h)
+numbered ListLimit h = omega (arith, h)
+numbered ImageForm h = omega (arith, h)
+numbered UnknownOp h = omega (arith, h)
+numbered Field h = omega (arith, h)
+numbered LoadMod h = omega (arith, h)
+numbered Text h = omega (arith, h)
+numbered Room h = omega (arith, h)
+numbered Step h = omega (arith, h)
 
 pub accepted : (a : ℕ) (w x own : List ℕ) (c y given : Cells) → a ≡ 0 → w ≡ x → c ≡ y
     → ◌≡◌ {A = Stepped} (record { answer = 0; words = w; cells = c })

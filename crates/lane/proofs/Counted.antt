@@ -1,10 +1,9 @@
 -- How many stores to registers each rule makes in a lane, and that none makes more than four. Assumes nothing.
-use Rattle.std.proofs.Common.{◌≡◌, ℕ, ◌+◌, ◌-◌, ◌<◌, ◌≤◌, Bool, true, false, ◌&&◌, ◌||◌, eqb, ltb, [], ◌∷◌, ◌++◌, sym, refl, ap, ◌∙◌, add_assoc, lt_of_not-le, zero-add, arith, ltb-true, le-ltb, lt-ltb, ne_eqb}
+use Rattle.std.proofs.Common.{◌≡◌, ℕ, ◌+◌, ◌-◌, ◌<◌, ◌≤◌, Bool, true, false, ◌&&◌, ◌||◌, eqb, ltb, [], ◌∷◌, ◌++◌, sym, refl, ap, ◌∙◌, add_assoc, lt_of_not-le, zero-add, arith, ltb-true, le-ltb, lt-ltb, ne_eqb, Some, None}
 use native.Mathlib.Decide.{dec_le}
 use lib.Ieee.{Float}
 use Rattle.lane.specs.declared.Settings.{Settings}
 use Rattle.lane.specs.declared.Insn.{Insn}
-use Rattle.lane.specs.declared.LutAnswer.TheVariants.{Number, Nothing}
 use Rattle.lane.specs.Words.{pick, bit, flag_of, Lane, Stores, constant_slot, lane_config, lane_flag, use_flag, template, sequence, misc, enabled, is_register, register_stores}
 use Rattle.lane.specs.Load.{loads, captures, load_with, load, loadi}
 use Rattle.lane.specs.Swap.{acts, swaps, below, index_of, plain_swap, index_swap, swap_with, swap}
@@ -135,7 +134,7 @@ load_count vd m cell place own =
 
 -- ---- LUT: one where there is an answer
 
-answer_count : (m r3 r : ℕ) (x : Float) (t : Bool) → (t ≡ true → r < 8) → register_stores (lut_stores m r3 (pick t (Number x r) Nothing)) ≡ flag_of t
+answer_count : (m r3 r : ℕ) (x : Float) (t : Bool) → (t ≡ true → r < 8) → register_stores (lut_stores m r3 (pick t (Some (x, r)) None)) ≡ flag_of t
 unfolding register_stores pick flag_of
 answer_count m r3 r x true h = one_register r (lut_word m r3 x) (let l : r < 8 = h refl in omega arith)
 answer_count m r3 r x false h = refl

@@ -1,5 +1,5 @@
 -- The table of fields: a number that is no op has no row. Assumes nothing.
-use Rattle.std.proofs.Common.{◌≡◌, ℕ, ◌+◌, ◌<◌, ◌≤◌, sym, ap, lt_of_not-le, arith}
+use Rattle.std.proofs.Common.{◌≡◌, ℕ, ◌<◌, ◌≤◌, sym, ap, lt_of_not-le}
 use native.Mathlib.Decide.{dec_le}
 use lib.ListN.{get_or-eq_default}
 use Rattle.lane.specs.Refusals.{imm_limits, vb_limits, vc_limits, vd_limits, mods_allowed, limits, limits_of}
@@ -22,10 +22,3 @@ none op e = ap limits_of (sym e)
 
 pub no_row : (op : ℕ) → (op < 17 → op ≡ 0) → limits 0 0 0 0 0 ≡ limits_of op
 no_row op h = elim (dec_le 17 op) [ yes k ↦ past op k | no k ↦ none op (h (lt_of_not-le k)) ]
-
--- one number after the other is none of them
-pub less : (n op : ℕ) → op < n + 1 → (op ≡ n → ⊥) → op < n
-less n op h k = omega arith
-
-pub least : (op : ℕ) → op < 1 → op ≡ 0
-least op h = omega arith

@@ -1,11 +1,9 @@
 -- Document 01, "What each operation does": LUT, with document 001's byte rule. Floats are binary32, rounded to nearest even.
-use Rattle.std.specs.Prelude.{ℕ, ◌+◌, ◌-◌, ◌*◌, ◌/◌, ◌%◌, ◌^◌, Bool, ◌&&◌, [], ◌∷◌, ◌==◌, from_bits, nat_lt, to_bits, Float}
+use Rattle.std.specs.Prelude.{ℕ, ◌+◌, ◌-◌, ◌*◌, ◌/◌, ◌%◌, ◌^◌, Bool, ◌&&◌, [], ◌∷◌, ◌==◌, from_bits, nat_lt, to_bits, Float, Option, Some, None}
 use Rattle.std.specs.Float.{binary32}
 use Rattle.std.specs.Float.Ieee.{add, mul, lt}
 use Rattle.lane.specs.declared.Insn.{Insn}
 use Rattle.lane.specs.declared.Piece.{Piece}
-use Rattle.lane.specs.declared.LutAnswer.{LutAnswer}
-use Rattle.lane.specs.declared.LutAnswer.TheVariants.{Number, Nothing}
 use Rattle.lane.specs.Words.{pick, has, sign, magnitude, Lane, Stores}
 use Rattle.lane.specs.Swap.{acts}
 
@@ -53,13 +51,13 @@ unfoldable pub lut_register : ℕ → ℕ → ℕ → ℕ
 lut_register m vd r7 = pick (has m 8) (r7 % 16) vd
 
 -- "A lane's LUT answer is a number with its register, or nothing stored, the lane not acting or the register being 8 or more."
-unfoldable pub lut_answer : Bool → ℕ → Float → LutAnswer
-lut_answer acting r x = pick (acting && nat_lt r 8) (Number x r) Nothing
+unfoldable pub lut_answer : Bool → ℕ → Float → Option (Float × ℕ)
+lut_answer acting r x = pick (acting && nat_lt r 8) (Some (x, r)) None
 
 -- Document 01's word and register for each case of that answer.
-abbrev pub lut_stores : ℕ → ℕ → LutAnswer → Stores
-lut_stores m r3 (Number x r) = (r, lut_word m r3 x) ∷ []
-lut_stores m r3 Nothing = []
+abbrev pub lut_stores : ℕ → ℕ → Option (Float × ℕ) → Stores
+lut_stores m r3 (Some (x, r)) = (r, lut_word m r3 x) ∷ []
+lut_stores m r3 None = []
 
 -- LUT where registers 0, 1, 2, 3 and 7 hold c0, c1, c2, r3 and r7.
 unfoldable pub lut_with : Insn → ℕ → ℕ → ℕ → ℕ → ℕ → Lane → Stores

@@ -1,13 +1,35 @@
 -- Document 01, "The clerk's numbers" and "Fields", as far as one lane goes: the refusals 3, 6, 7, 8 and 9.
-use Rattle.std.specs.Prelude.{ℕ, ◌^◌, Bool, not, ◌&&◌, ◌||◌, List, [], ◌∷◌, ◌==◌, nat_le, nat_lt, slice_index}
+use Rattle.std.specs.Prelude.{ℕ, ◌^◌, Bool, not, ◌&&◌, ◌||◌, List, [], ◌∷◌, ◌==◌, nat_le, nat_lt, slice_index, Result, Ok, Err, ⊤}
 use Rattle.lane.specs.declared.Settings.{Settings}
 use Rattle.lane.specs.declared.Insn.{Insn}
 use Rattle.lane.specs.declared.Limits.{Limits}
 use Rattle.lane.specs.declared.Stepped.{Stepped}
+use Rattle.lane.specs.declared.Refusal.{Refusal}
+use Rattle.lane.specs.declared.Refusal.TheVariants.{ImageSize, DstSize, Setting, ListShape, ListLimit, ImageForm, UnknownOp, Field, LoadMod, Text, Room, Step}
 use Rattle.lane.specs.Words.{pick, bit, Lane, lane_config, lane_flag, use_flag, misc, lane_of, words_after}
 use Rattle.lane.specs.Load.{address}
 use Rattle.lane.specs.Store.{cells}
 use Rattle.lane.specs.Rule.{stores_of, cells_of}
+
+-- "The clerk's numbers", and 12 of document 02, M-103.
+abbrev pub number : Refusal → ℕ
+number ImageSize = 1
+number DstSize = 2
+number Setting = 3
+number ListShape = 4
+number ListLimit = 5
+number ImageForm = 6
+number UnknownOp = 7
+number Field = 8
+number LoadMod = 9
+number Text = 10
+number Room = 11
+number Step = 12
+
+-- The number that a check gives: 0 where nothing is refused.
+abbrev pub answer_of : Result ⊤ Refusal → ℕ
+answer_of (Ok _) = 0
+answer_of (Err why) = number why
 
 -- On with the rest where a test holds, else the refusal n.
 unfoldable pub pass : Bool → ℕ → ℕ → ℕ

@@ -1,9 +1,13 @@
 // IADD, ABS, AND, OR, XOR, NOT, LZ, EXEXP and EXMAN: the words that they compute and the flags that they set.
+
+// The proofs here look into these definitions.
+#![tactic(auto, unfolding(crate::specs::Compute::abs_word, crate::specs::Compute::exexp_word, crate::specs::Compute::exman_word, crate::specs::Compute::flag_after, crate::specs::Compute::inverted, crate::specs::Compute::lz_operand, crate::specs::Compute::other, crate::specs::Compute::value_word, crate::specs::Words::flag_of, crate::specs::Words::pick))]
+
 ghost use Rattle.std.specs.Prelude.{◌≡◌};
 ghost use Rattle.lane.specs.Compute as Compute;
 
-use crate::words::keep;
-use std::num::{wrapping_add_u32, wrapping_sub_u32};
+use crate::op;
+use crate::words::{extended, keep};
 
 // The flag afterwards: `truth` where the instruction sets it, else the old one; inverted where mod has 8. What is set is inverted by a number, so that a
 // loop over lanes has no test for it.
@@ -18,31 +22,16 @@ pub fn flag_after(sets: bool, truth: bool, m: u32, old: u32) -> u32
     }
 }
 
-// A 12-bit number, extended by its sign.
-fn extended(imm: u32) -> u32
-    ensures { result ≡ Compute.extended imm }
-{
-    let low = imm % 4096;
-    if low < 2048 { low } else { low + 0xFFFFF000 }
-}
-
-// The difference, wrapping.
-fn minus(a: u32, b: u32) -> u32
-    ensures { result ≡ Compute.minus a b }
-{
-    wrapping_sub_u32(a, b)
-}
-
 // IADD's word.
 pub fn iadd_word(m: u32, imm: u32, c: u32, d: u32) -> u32
     ensures { result ≡ Compute.iadd_word m imm c d }
 {
     if m % 2 == 1 {
-        wrapping_add_u32(c, extended(imm))
+        c.wrapping_add(extended(imm % 4096, 0x800))
     } else if m / 2 % 2 == 1 {
-        minus(c, d)
+        c.wrapping_sub(d)
     } else {
-        wrapping_add_u32(c, d)
+        c.wrapping_add(d)
     }
 }
 
@@ -78,7 +67,7 @@ pub(crate) fn lz_flag(m: u32, c: u32, old: u32) -> u32
 pub fn exexp_word(m: u32, c: u32) -> u32
     ensures { result ≡ Compute.exexp_word m c }
 {
-    minus(c / 0x800000 % 256, 127 - m % 2 * 127)
+    (c / 0x800000 % 256).wrapping_sub(127 - m % 2 * 127)
 }
 
 // EXEXP's flag.
@@ -119,11 +108,11 @@ pub fn value_word(op: u32, m: u32, b: u32, c: u32, d: u32) -> u32
     ensures { result ≡ Compute.value_word op m b c d }
 {
     match op {
-        7 => abs_word(m, c),
-        8 => keep(m % 2 == 1, b, d) & c,
-        9 => keep(m % 2 == 1, b, d) | c,
-        10 => d ^ c,
-        11 => !c,
+        op::ABS => abs_word(m, c),
+        op::AND => keep(m % 2 == 1, b, d) & c,
+        op::OR => keep(m % 2 == 1, b, d) | c,
+        op::XOR => d ^ c,
+        op::NOT => !c,
         _ => exman_word(m, c),
     }
 }

@@ -1,12 +1,18 @@
 // CONFIG: which lanes it passes over, its value, and what it makes of the word in place.
+
+// The proofs here look into these definitions.
+#![tactic(auto, unfolding(crate::specs::Config::combined, crate::specs::Config::constant_after, crate::specs::Config::edition_constant, crate::specs::Config::lane_config_after, crate::specs::Config::value_of, crate::specs::Words::pick))]
+
 ghost use Rattle.std.specs.Prelude.{◌≡◌};
 ghost use Rattle.lane.specs.Config as Config;
+
+use crate::words::is_set;
 
 // Whether a lane is passed over, by mod, imm and the flags of row 0's lane of its column.
 pub fn passed_over(m: u32, imm: u32, lane: u8, use_flag: u32, lane_flag: u32) -> bool
     ensures { result ≡ Config.passed_over m imm lane use_flag lane_flag }
 {
-    ((m / 8 % 2 == 1) & !((imm >> (2 * (lane % 8))) % 2 == 1))
+    ((m / 8 % 2 == 1) & !is_set(imm, (2 * (lane % 8)) as u32))
         | ((use_flag == 1) & (lane_flag == 0))
 }
 
@@ -51,17 +57,15 @@ pub fn lane_config_after(m: u32, old: u32, v: u32) -> u32
 fn edition_constant(edition: u32, vd: u32) -> u32
     ensures { result ≡ Config.edition_constant edition vd }
 {
-    if vd == 11 {
-        return 0xBF800000;
-    }
-    if vd == 12 {
-        let is_first = edition == 1;
-        if is_first {
-            return 0x37800000;
+    match vd {
+        11 => 0xBF800000,
+        12 => {
+            let is_first = edition == 1;
+            if is_first { 0x37800000 } else { 0x3B000000 }
         }
-        return 0x3B000000;
+        13 => 0xBF2CC4C7,
+        _ => 0xBEB08FF9,
     }
-    if vd == 13 { 0xBF2CC4C7 } else { 0xBEB08FF9 }
 }
 
 // A register 11 to 14 afterwards.

@@ -1,10 +1,14 @@
 // LOAD: its address, cursor and conversions of a cell. LOADI: its halves.
+
+// The proofs here look into these definitions.
+#![tactic(auto, unfolding(crate::specs::Load::fp16, crate::specs::Load::immediate, crate::specs::Load::loaded, crate::specs::Load::next_cursor, crate::specs::Load::resolved, crate::specs::Load::sign_mag, crate::specs::Load::stride, crate::specs::Load::twos_comp, crate::specs::Words::pick))]
+
 ghost use Rattle.std.specs.Prelude.{◌≡◌, ◌<◌};
+ghost use Rattle.lane.specs.Words.{lane_of};
 ghost use Rattle.lane.specs.Load as Load;
 
-use crate::Settings;
-use crate::words::enabled;
-use std::num::wrapping_sub_u32;
+use crate::words::{LANE_CONFIG, extended, is_enabled};
+use crate::{Settings, op};
 
 // The address at which an instruction meets Dst. Each part is cut first, so that no sum wraps.
 pub fn address(imm: u32, offset: u32, cursor: u32) -> u16
@@ -17,14 +21,11 @@ pub fn address(imm: u32, offset: u32, cursor: u32) -> u16
 pub fn stride(s: Settings, vb: u32) -> u32
     ensures { result ≡ Load.stride s vb }
 {
-    if vb == 0 {
-        s.stride0
-    } else if vb == 1 {
-        s.stride1
-    } else if vb == 2 {
-        s.stride2
-    } else {
-        s.stride3
+    match vb {
+        0 => s.stride0,
+        1 => s.stride1,
+        2 => s.stride2,
+        _ => s.stride3,
     }
 }
 
@@ -32,7 +33,7 @@ pub fn stride(s: Settings, vb: u32) -> u32
 pub fn meets_dst(op: u32) -> bool
     ensures { result ≡ Load.meets_dst op }
 {
-    (op == 1) | (op == 16)
+    (op == op::LOAD) | (op == op::STORE)
 }
 
 // The cursor after an instruction whose `vb` chose the stride `chosen`.
@@ -82,8 +83,8 @@ fn bf16(cell: u16) -> u32
 {
     let x = cell as u32;
     // the shift brings the digits to their place and the sign just above them; extended from there, it is at its own place too
-    let extended = wrapping_sub_u32((x << 8) ^ 0x800000, 0x800000);
-    (extended & 0x807F0000) | ((x << 23) & 0x7F800000)
+    let signed = extended(x << 8, 0x800000);
+    (signed & 0x807F0000) | ((x << 23) & 0x7F800000)
 }
 
 // A sign and `width` bits of magnitude, from bit `place` up.
@@ -101,13 +102,13 @@ fn twos_comp(w: u32) -> u32
 {
     let magnitude = w % 0x80000000;
     if w / 0x80000000 == 1 {
-        wrapping_sub_u32(0, magnitude)
+        0u32.wrapping_sub(magnitude)
     } else {
         magnitude
     }
 }
 
-// A word with another high half.
+// A word with another high half. It and the next are two, as the two definitions of document 01 are, each of one line.
 fn with_high(old: u32, half: u16) -> u32
     ensures { result ≡ Load.with_high old half }
 {
@@ -121,7 +122,8 @@ fn with_low(old: u32, half: u16) -> u32
     old / 0x10000 * 0x10000 + half as u32
 }
 
-// What LOAD with mod `m` makes of a cell; `old` is the register's word, of which mods 14 and 15 keep half.
+// What LOAD with mod `m` makes of a cell; `old` is the register's word, of which mods 14 and 15 keep half. The promise is of every number, so that mods are no
+// enum here and in `stored_cell`.
 pub fn loaded(m: u32, inf: bool, old: u32, cell: u16) -> u32
     ensures { result ≡ Load.loaded m inf old cell }
 {
@@ -148,10 +150,10 @@ pub fn resolved(srcb: u32, m: u32) -> u32
 }
 
 // Whether LOAD stores in a lane.
-pub(crate) fn loads(vd: u32, config: u32, use_flag: u32, lane_flag: u32) -> bool
-    ensures { result ≡ Load.loads_by vd config use_flag lane_flag }
+pub(crate) fn loads(vd: u32, own: &[u32; 24]) -> bool
+    ensures { result ≡ Load.loads vd (lane_of own.now) }
 {
-    (vd < 8) & (enabled(use_flag, lane_flag) & !(config / 2 % 2 == 1))
+    (vd < 8) & (is_enabled(own) & !(own[LANE_CONFIG] / 2 % 2 == 1))
 }
 
 // Whether a LOAD that stores also captures the cell's place.

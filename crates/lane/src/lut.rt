@@ -1,17 +1,21 @@
 // LUT: its input, the coefficients that serve it, the sum, and the word that is stored.
+
+// The proofs here look into these definitions.
+#![tactic(auto, unfolding(crate::specs::Lut::flushed, crate::specs::Lut::input_bits, crate::specs::Lut::lut_answer, crate::specs::Lut::lut_register, crate::specs::Lut::serving, crate::specs::Lut::signed, crate::specs::Words::pick))]
+
 ghost use Rattle.std.specs.Prelude.{◌≡◌, from_bits, to_bits};
 ghost use Rattle.std.specs.Float.{binary32};
 ghost use Rattle.lane.specs.Lut as Lut;
 
-use crate::{LutAnswer, Piece};
-use std::num::wrapping_sub_u32;
+use crate::Piece;
+use crate::words::extended;
 
 // The number that a word stands for. Every NaN pattern is the one NaN.
 pub fn float_of(w: u32) -> f32
     ensures { result ≡ from_bits binary32 w }
 {
     if 0x7F800000 < w % 0x80000000 {
-        0.0 / 0.0
+        f32::NAN
     } else {
         f32::from_bits(w)
     }
@@ -21,7 +25,11 @@ pub fn float_of(w: u32) -> f32
 fn bits_of(x: f32) -> u32
     ensures { result ≡ to_bits binary32 x }
 {
-    if x != x { 0x7FC00000 } else { f32::to_bits(x) }
+    if x.is_nan() {
+        0x7FC00000
+    } else {
+        f32::to_bits(x)
+    }
 }
 
 // Register 3 with its sign cleared, a denormal counting as 0.
@@ -50,8 +58,8 @@ pub fn serving(b: f32, c0: u32, c1: u32, c2: u32) -> u32
 fn byte_word(byte: u8) -> u32
     ensures { result ≡ Lut.byte_word byte }
 {
-    let extended = wrapping_sub_u32(byte as u32 ^ 0x80, 0x80);
-    let word = ((extended << 19) & 0x83F80000) ^ 0x3F800000;
+    let signed = extended(byte as u32, 0x80);
+    let word = ((signed << 19) & 0x83F80000) ^ 0x3F800000;
     if word == 0xBC780000 { 0 } else { word }
 }
 
@@ -119,13 +127,9 @@ pub(crate) fn lut_result(c0: u32, c1: u32, c2: u32, r3: u32) -> f32
 }
 
 // A lane's answer: the number with its register, or nothing stored.
-pub fn lut_answer(acting: bool, register: u32, x: f32) -> LutAnswer
+pub fn lut_answer(acting: bool, register: u32, x: f32) -> Option<(f32, u32)>
     ensures { result ≡ Lut.lut_answer acting register x }
 {
     let stored = acting & (register < 8);
-    if stored {
-        LutAnswer::Number(x, register)
-    } else {
-        LutAnswer::Nothing
-    }
+    if stored { Some((x, register)) } else { None }
 }

@@ -3,8 +3,11 @@ ghost use Rattle.std.specs.Prelude.{◌≡◌};
 ghost use Rattle.lane.specs.Words.{lane_of};
 ghost use Rattle.lane.specs.Refusals as Refusals;
 
-use crate::words::{LANE_CONFIG, LANE_FLAG, MISC, USE_FLAG};
-use crate::{Insn, Limits, Settings};
+use crate::op::{
+    ABS, AND, CONFIG, EXEXP, EXMAN, IADD, LOAD, LOADI, LUT, LZ, NOP, NOT, OR, STORE, SWAP, XOR,
+};
+use crate::words::{LANE_CONFIG, LANE_FLAG, MISC, USE_FLAG, is_set};
+use crate::{Insn, Limits, Refusal, Settings};
 
 // Whether every setting is in its range.
 pub fn settings_good(s: Settings) -> bool
@@ -31,7 +34,7 @@ pub fn well_formed(config: u32, flag: u32, use_flag: u32, misc: u32) -> bool
 fn mod_allowed(mask: u32, m: u32) -> bool
     ensures { result ≡ Refusals.mod_in mask m }
 {
-    if m < 16 { (mask >> m) % 2 == 1 } else { false }
+    (m < 16) && is_set(mask, m)
 }
 
 // A row of the table of fields.
@@ -52,38 +55,22 @@ fn limits_of(op: u32) -> Limits
     ensures { result ≡ Refusals.limits_of op }
 {
     match op {
-        // LOAD
-        1 => row(1023, 3, 0, 15, 0xFFFF),
-        // LOADI
-        2 => row(65535, 0, 0, 15, 0x0500),
-        // LUT
-        3 => row(0, 0, 0, 15, 0x1111),
-        // SWAP
-        4 => row(0, 0, 15, 15, 0xFFFF),
-        // CONFIG
-        5 => row(65535, 0, 0, 15, 0xFFFF),
-        // IADD
-        6 => row(4095, 0, 15, 15, 0xFFFF),
-        // ABS
-        7 => row(0, 0, 15, 15, 0x0003),
-        // AND
-        8 => row(0, 15, 15, 15, 0x0003),
-        // OR
-        9 => row(0, 15, 15, 15, 0x0003),
-        // XOR
-        10 => row(0, 0, 15, 15, 0x0001),
-        // NOT
-        11 => row(0, 0, 15, 15, 0x0001),
-        // LZ
-        12 => row(0, 0, 15, 15, 0x5555),
-        // EXEXP
-        13 => row(0, 0, 15, 15, 0x0F0F),
-        // EXMAN
-        14 => row(0, 0, 15, 15, 0x0003),
-        // NOP
-        15 => row(0, 0, 0, 0, 0x0001),
-        // STORE
-        16 => row(1023, 3, 0, 15, 0x02C4),
+        LOAD => row(1023, 3, 0, 15, 0xFFFF),
+        LOADI => row(65535, 0, 0, 15, 0x0500),
+        LUT => row(0, 0, 0, 15, 0x1111),
+        SWAP => row(0, 0, 15, 15, 0xFFFF),
+        CONFIG => row(65535, 0, 0, 15, 0xFFFF),
+        IADD => row(4095, 0, 15, 15, 0xFFFF),
+        ABS => row(0, 0, 15, 15, 0x0003),
+        AND => row(0, 15, 15, 15, 0x0003),
+        OR => row(0, 15, 15, 15, 0x0003),
+        XOR => row(0, 0, 15, 15, 0x0001),
+        NOT => row(0, 0, 15, 15, 0x0001),
+        LZ => row(0, 0, 15, 15, 0x5555),
+        EXEXP => row(0, 0, 15, 15, 0x0F0F),
+        EXMAN => row(0, 0, 15, 15, 0x0003),
+        NOP => row(0, 0, 0, 0, 0x0001),
+        STORE => row(1023, 3, 0, 15, 0x02C4),
         _ => row(0, 0, 0, 0, 0),
     }
 }
@@ -98,25 +85,32 @@ fn fields_good(i: Insn) -> bool
         & (i.vc <= limits.vc)
         & (i.vd <= limits.vd)
         & mod_allowed(limits.mods, i.md)
-        & ((i.vb == 0) | !((i.op == 8) | (i.op == 9)) | (i.md == 1))
+        & ((i.vb == 0) | !((i.op == AND) | (i.op == OR)) | (i.md == 1))
 }
 
-// 7, 8, 9 or 0 for an instruction; `also` is what 8 asks besides the fields.
-pub fn instruction_answer(also: bool, i: Insn) -> u32
-    ensures { result ≡ Refusals.instruction_answer also i }
+// Whether it is a LOAD that 9 refuses.
+fn is_wide_load(i: Insn) -> bool
+    ensures { result ≡ Refusals.wide_load i.op i.md }
 {
-    let known = (1 <= i.op) & (i.op <= 16);
-    if known {
-        let good = fields_good(i) & also;
-        if good {
-            let wide = (i.op == 1) & ((i.md == 3) | (i.md == 4) | (i.md == 10) | (i.md == 12));
-            if wide { 9 } else { 0 }
-        } else {
-            8
-        }
-    } else {
-        7
+    (i.op == LOAD) & ((i.md == 3) | (i.md == 4) | (i.md == 10) | (i.md == 12))
+}
+
+// 7, 8 or 9 for an instruction; `also` is what 8 asks besides the fields.
+pub fn instruction_answer(also: bool, i: Insn) -> Result<(), Refusal>
+    ensures { Refusals.answer_of result ≡ Refusals.instruction_answer also i }
+{
+    let known = (LOAD <= i.op) & (i.op <= STORE);
+    if !known {
+        return Err(Refusal::UnknownOp);
     }
+    let good = fields_good(i) & also;
+    if !good {
+        return Err(Refusal::Field);
+    }
+    if is_wide_load(i) {
+        return Err(Refusal::LoadMod);
+    }
+    Ok(())
 }
 
 // Whether 24 words are a well formed lane.
@@ -126,18 +120,22 @@ fn lane_good(own: [u32; 24]) -> bool
     well_formed(own[LANE_CONFIG], own[LANE_FLAG], own[USE_FLAG], own[MISC])
 }
 
-// The refusals of the lane rules: 3, 6, 7, 8 and 9, or 0.
-pub(crate) fn lane_answer(s: Settings, lane: u32, i: Insn, own: [u32; 24], head: [u32; 24]) -> u32
-    ensures { result ≡ Refusals.lane_answer s lane i (lane_of own) (lane_of head) }
+// The refusals of the lane rules: 3, 6, 7, 8 and 9.
+pub(crate) fn lane_answer(
+    s: Settings,
+    lane: u32,
+    i: Insn,
+    own: [u32; 24],
+    head: [u32; 24],
+) -> Result<(), Refusal>
+    ensures { Refusals.answer_of result ≡ Refusals.lane_answer s lane i (lane_of own) (lane_of head) }
 {
-    if settings_good(s) {
-        let good = lane_good(own) & lane_good(head);
-        if good {
-            instruction_answer(lane <= 31, i)
-        } else {
-            6
-        }
-    } else {
-        3
+    if !settings_good(s) {
+        return Err(Refusal::Setting);
     }
+    let good = lane_good(own) & lane_good(head);
+    if !good {
+        return Err(Refusal::ImageForm);
+    }
+    instruction_answer(lane <= 31, i)
 }

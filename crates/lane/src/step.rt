@@ -1,4 +1,10 @@
 // One instruction in one lane: its 24 words, row 0's 24 words and its two cells of Dst by value, and the words and the cells afterwards.
+//
+// `i`, `lane` and `own` are no struct: five functions need no lane, and what each returns is the words alone, so that a struct would be taken apart each time.
+
+// What the proofs here cite, and the definitions that they look into.
+#![tactic(auto, using(crate::proofs::Stores::after_none), unfolding(crate::specs::Words::pick))]
+
 ghost use Rattle.std.specs.Prelude.{◌≡◌, ◌+◌, [], ◌∷◌};
 ghost use Rattle.lane.specs.Words.{pick, lane_of, words_after};
 ghost use Rattle.lane.specs.Load as Load;
@@ -16,8 +22,10 @@ use crate::load::{address, captures, immediate, is_odd, loaded, loads, place, re
 use crate::lut::{lut_answer, lut_register, lut_result, lut_word};
 use crate::refuse::lane_answer;
 use crate::swap::{acts, in_mask, mask_of, swaps};
-use crate::words::{LANE_CONFIG, LANE_FLAG, MISC, SEQUENCE, TEMPLATE, USE_FLAG, enabled, register};
-use crate::{Cells, Insn, LutAnswer, Settings, Stepped};
+use crate::words::{
+    LANE_CONFIG, LANE_FLAG, MISC, SEQUENCE, TEMPLATE, USE_FLAG, is_enabled, register,
+};
+use crate::{Cells, Insn, Settings, Stepped, op};
 
 // One store; a slot past the last is none.
 fn put(own: [u32; 24], slot: u32, word: u32) -> [u32; 24]
@@ -31,17 +39,19 @@ fn put(own: [u32; 24], slot: u32, word: u32) -> [u32; 24]
 }
 
 // A store to register `r`, only below `n`.
+#[tactic(auto, using(crate::proofs::Stores::after_none), unfolding(crate::specs::Swap::below, crate::specs::Words::pick))]
 fn put_below(own: [u32; 24], n: u32, r: u32, word: u32) -> [u32; 24]
     ensures { result ≡ words_after (Swap.below n r word) own }
 {
     if r < n { put(own, r, word) } else { own }
 }
 
-// A word for vd, in an enabled lane.
+// A word for vd, in an enabled lane. It and the next are two, as the two definitions of document 01 are, each of one line.
+#[tactic(auto, using(crate::proofs::Stores::after_none), unfolding(crate::specs::Compute::word_only, crate::specs::Words::pick))]
 fn word_only(own: [u32; 24], vd: u32, word: u32) -> [u32; 24]
     ensures { result ≡ words_after (Compute.word_only vd word (lane_of own)) own }
 {
-    let computes = (vd < 8) & enabled(own[USE_FLAG], own[LANE_FLAG]);
+    let computes = (vd < 8) & is_enabled(&own);
     if computes { put(own, vd, word) } else { own }
 }
 
@@ -49,7 +59,7 @@ fn word_only(own: [u32; 24], vd: u32, word: u32) -> [u32; 24]
 fn word_and_flag(own: [u32; 24], vd: u32, word: u32, flag: u32) -> [u32; 24]
     ensures { result ≡ words_after (Compute.word_and_flag vd word flag (lane_of own)) own }
 {
-    let computes = (vd < 8) & enabled(own[USE_FLAG], own[LANE_FLAG]);
+    let computes = (vd < 8) & is_enabled(&own);
     if computes {
         put(put(own, vd, word), LANE_FLAG as u32, flag)
     } else {
@@ -75,7 +85,7 @@ fn load_cell(own: [u32; 24], vd: u32, m: u32, cell: u16, at: u32) -> [u32; 24]
 {
     if vd < 8 {
         let config = own[LANE_CONFIG];
-        if loads(vd, config, own[USE_FLAG], own[LANE_FLAG]) {
+        if loads(vd, &own) {
             let word = loaded(m, config % 2 == 1, own[vd as usize], cell);
             return capture(put(own, vd, word), vd, config, at);
         }
@@ -83,38 +93,32 @@ fn load_cell(own: [u32; 24], vd: u32, m: u32, cell: u16, at: u32) -> [u32; 24]
     own
 }
 
-// One cell or the other.
-fn cell_of(odd: bool, even_cell: u16, odd_cell: u16) -> u16
-    ensures { result ≡ pick odd odd_cell even_cell }
-{
-    if odd { odd_cell } else { even_cell }
-}
-
 // LOAD.
+#[tactic(auto, unfolding(crate::specs::Load::load))]
 fn load_lane(
     srcb: u32,
     a: u16,
     i: Insn,
     lane: u8,
     exchanged: bool,
-    even_cell: u16,
-    odd_cell: u16,
+    cells: Cells,
     own: [u32; 24],
 ) -> [u32; 24]
-    ensures { result ≡ words_after (Load.load srcb a i lane exchanged even_cell odd_cell (lane_of own)) own }
+    ensures { result ≡ words_after (Load.load srcb a i lane exchanged cells.even cells.odd (lane_of own)) own }
 {
     let odd = is_odd(a, exchanged);
-    let cell = cell_of(odd, even_cell, odd_cell);
+    let cell = cells.chosen(odd);
     load_cell(own, i.vd, resolved(srcb, i.md), cell, place(a, lane, odd))
 }
 
 // LOADI.
+#[tactic(auto, using(crate::proofs::Stores::after_none), unfolding(crate::specs::Load::loadi, crate::specs::Words::pick))]
 fn loadi_lane(i: Insn, own: [u32; 24]) -> [u32; 24]
     ensures { result ≡ words_after (Load.loadi i (lane_of own)) own }
 {
     let vd = i.vd;
     if vd < 8 {
-        if enabled(own[USE_FLAG], own[LANE_FLAG]) {
+        if is_enabled(&own) {
             return put(own, vd, immediate(i.md, i.imm, own[vd as usize]));
         }
     }
@@ -122,21 +126,22 @@ fn loadi_lane(i: Insn, own: [u32; 24]) -> [u32; 24]
 }
 
 // What a LUT answer stores.
-fn put_lut(own: [u32; 24], m: u32, r3: u32, answer: LutAnswer) -> [u32; 24]
+fn put_lut(own: [u32; 24], m: u32, r3: u32, answer: Option<(f32, u32)>) -> [u32; 24]
     ensures { result ≡ words_after (Lut.lut_stores m r3 answer) own }
 {
     match answer {
-        LutAnswer::Number(x, r) => put(own, r, lut_word(m, r3, x)),
-        LutAnswer::Nothing => own,
+        Some((x, r)) => put(own, r, lut_word(m, r3, x)),
+        None => own,
     }
 }
 
 // LUT.
+#[tactic(auto, unfolding(crate::specs::Lut::lut, crate::specs::Lut::lut_with))]
 fn lut_lane(i: Insn, own: [u32; 24]) -> [u32; 24]
     ensures { result ≡ words_after (Lut.lut i (lane_of own)) own }
 {
     let r3 = own[3];
-    let acting = acts(i.vd, own[LANE_CONFIG], own[USE_FLAG], own[LANE_FLAG]);
+    let acting = acts(i.vd, &own);
     let x = lut_result(own[0], own[1], own[2], r3);
     let answer = lut_answer(acting, lut_register(i.md, i.vd, own[7]), x);
     put_lut(own, i.md, r3, answer)
@@ -157,11 +162,12 @@ fn index_swap(own: [u32; 24], vc: u32, vd: u32, c: u32, d: u32, x: u32, y: u32) 
 }
 
 // SWAP where vc and vd hold `c` and `d`.
+#[tactic(auto, using(crate::proofs::Stores::after_none), unfolding(crate::specs::Swap::swap_with, crate::specs::Words::pick))]
 fn swap_words(minimum: bool, i: Insn, c: u32, d: u32, own: [u32; 24]) -> [u32; 24]
     ensures { result ≡ words_after (Swap.swap_with minimum i c d (lane_of own)) own }
 {
     let config = own[LANE_CONFIG];
-    let acting = acts(i.vd, config, own[USE_FLAG], own[LANE_FLAG]);
+    let acting = acts(i.vd, &own);
     let swapping = acting & swaps(i.md == 0, minimum, config / 256 % 2 == 1, c, d);
     if swapping {
         if config / 4 % 2 == 1 {
@@ -177,6 +183,7 @@ fn swap_words(minimum: bool, i: Insn, c: u32, d: u32, own: [u32; 24]) -> [u32; 2
 }
 
 // SWAP.
+#[tactic(auto, unfolding(crate::specs::Swap::swap))]
 fn swap_lane(i: Insn, lane: u8, own: [u32; 24]) -> [u32; 24]
     ensures { result ≡ words_after (Swap.swap i lane (lane_of own)) own }
 {
@@ -186,46 +193,43 @@ fn swap_lane(i: Insn, lane: u8, own: [u32; 24]) -> [u32; 24]
 }
 
 // CONFIG's store for vd 8 up: Misc, nothing, a constant register, LaneConfig.
+#[tactic(auto, using(crate::proofs::Stores::after_none), unfolding(crate::specs::Config::high_store, crate::specs::Words::pick))]
 fn config_high(edition: u32, i: Insn, first: u32, own: [u32; 24]) -> [u32; 24]
     ensures { result ≡ words_after (Config.high_store edition i first (lane_of own)) own }
 {
     let vd = i.vd;
     let value = value_of(i.md, i.imm, first);
-    if vd == 8 {
-        return put(own, MISC as u32, misc_after(i.md, own[MISC], value));
+    match vd {
+        8 => put(own, MISC as u32, misc_after(i.md, own[MISC], value)),
+        0..=10 => own,
+        11..=14 => put(own, vd - 3, constant_after(edition, i.md, vd, first)),
+        _ => put(
+            own,
+            LANE_CONFIG as u32,
+            lane_config_after(i.md, own[LANE_CONFIG], value),
+        ),
     }
-    if vd < 11 {
-        return own;
-    }
-    if vd < 15 {
-        return put(own, vd - 3, constant_after(edition, i.md, vd, first));
-    }
-    put(
-        own,
-        LANE_CONFIG as u32,
-        lane_config_after(i.md, own[LANE_CONFIG], value),
-    )
 }
 
 // CONFIG's store: a template, a sequence, or one of those above.
+#[tactic(auto, unfolding(crate::specs::Config::config_store, crate::specs::Words::pick))]
 fn config_words(edition: u32, i: Insn, first: u32, own: [u32; 24]) -> [u32; 24]
     ensures { result ≡ words_after (Config.config_store edition i first (lane_of own)) own }
 {
     let vd = i.vd;
-    if vd < 4 {
-        return put(own, TEMPLATE as u32 + vd, first);
-    }
-    if vd < 8 {
-        return put(
+    match vd {
+        0..=3 => put(own, TEMPLATE as u32 + vd, first),
+        4..=7 => put(
             own,
             SEQUENCE as u32 + (vd - 4),
             value_of(i.md, i.imm, first),
-        );
+        ),
+        _ => config_high(edition, i, first, own),
     }
-    config_high(edition, i, first, own)
 }
 
 // CONFIG.
+#[tactic(auto, using(crate::proofs::Stores::after_none), unfolding(crate::specs::Config::config, crate::specs::Config::config_with, crate::specs::Words::pick))]
 fn config_lane(edition: u32, i: Insn, lane: u8, head: [u32; 24], own: [u32; 24]) -> [u32; 24]
     ensures { result ≡ words_after (Config.config edition i lane (lane_of head) (lane_of own)) own }
 {
@@ -237,16 +241,18 @@ fn config_lane(edition: u32, i: Insn, lane: u8, head: [u32; 24], own: [u32; 24])
 }
 
 // ABS, AND, OR, XOR, NOT and EXMAN.
-fn valued_lane(op: u32, i: Insn, lane: u8, own: [u32; 24]) -> [u32; 24]
-    ensures { result ≡ words_after (Compute.valued op i lane (lane_of own)) own }
+#[tactic(auto, unfolding(crate::specs::Compute::valued, crate::specs::Compute::valued_with))]
+fn valued_lane(i: Insn, lane: u8, own: [u32; 24]) -> [u32; 24]
+    ensures { result ≡ words_after (Compute.valued i.op i lane (lane_of own)) own }
 {
     let b = register(&own, lane, i.vb);
     let c = register(&own, lane, i.vc);
     let d = register(&own, lane, i.vd);
-    word_only(own, i.vd, value_word(op, i.md, b, c, d))
+    word_only(own, i.vd, value_word(i.op, i.md, b, c, d))
 }
 
 // IADD.
+#[tactic(auto, unfolding(crate::specs::Compute::iadd, crate::specs::Compute::iadd_with))]
 fn iadd_lane(i: Insn, lane: u8, own: [u32; 24]) -> [u32; 24]
     ensures { result ≡ words_after (Compute.iadd i lane (lane_of own)) own }
 {
@@ -257,6 +263,7 @@ fn iadd_lane(i: Insn, lane: u8, own: [u32; 24]) -> [u32; 24]
 }
 
 // LZ.
+#[tactic(auto, unfolding(crate::specs::Compute::lz, crate::specs::Compute::lz_with))]
 fn lz_lane(i: Insn, lane: u8, own: [u32; 24]) -> [u32; 24]
     ensures { result ≡ words_after (Compute.lz i lane (lane_of own)) own }
 {
@@ -270,6 +277,7 @@ fn lz_lane(i: Insn, lane: u8, own: [u32; 24]) -> [u32; 24]
 }
 
 // EXEXP.
+#[tactic(auto, unfolding(crate::specs::Compute::exexp, crate::specs::Compute::exexp_with))]
 fn exexp_lane(i: Insn, lane: u8, own: [u32; 24]) -> [u32; 24]
     ensures { result ≡ words_after (Compute.exexp i lane (lane_of own)) own }
 {
@@ -279,52 +287,50 @@ fn exexp_lane(i: Insn, lane: u8, own: [u32; 24]) -> [u32; 24]
 }
 
 // Any operation but CONFIG.
+#[tactic(auto, using(crate::proofs::Stores::after_none), unfolding(crate::specs::Rule::lanewise, crate::specs::Words::pick))]
 fn lanewise_words(
-    op: u32,
     srcb: u32,
     a: u16,
     i: Insn,
     lane: u8,
     exchanged: bool,
-    even_cell: u16,
-    odd_cell: u16,
+    cells: Cells,
     own: [u32; 24],
 ) -> [u32; 24]
-    ensures { result ≡ words_after (Rule.lanewise op srcb a i lane exchanged even_cell odd_cell (lane_of own)) own }
+    ensures { result ≡ words_after (Rule.lanewise i.op srcb a i lane exchanged cells.even cells.odd (lane_of own)) own }
 {
-    match op {
-        1 => load_lane(srcb, a, i, lane, exchanged, even_cell, odd_cell, own),
-        2 => loadi_lane(i, own),
-        3 => lut_lane(i, own),
-        4 => swap_lane(i, lane, own),
-        6 => iadd_lane(i, lane, own),
-        12 => lz_lane(i, lane, own),
-        13 => exexp_lane(i, lane, own),
-        15 => own,
-        16 => own,
-        _ => valued_lane(op, i, lane, own),
+    match i.op {
+        op::LOAD => load_lane(srcb, a, i, lane, exchanged, cells, own),
+        op::LOADI => loadi_lane(i, own),
+        op::LUT => lut_lane(i, own),
+        op::SWAP => swap_lane(i, lane, own),
+        op::IADD => iadd_lane(i, lane, own),
+        op::LZ => lz_lane(i, lane, own),
+        op::EXEXP => exexp_lane(i, lane, own),
+        op::NOP => own,
+        op::STORE => own,
+        _ => valued_lane(i, lane, own),
     }
 }
 
 // Any operation, at the address that the settings give.
+#[tactic(auto, unfolding(crate::specs::Rule::stores_of, crate::specs::Words::pick))]
 fn lane_words(
     s: Settings,
     i: Insn,
     lane: u8,
     head: [u32; 24],
-    even_cell: u16,
-    odd_cell: u16,
+    cells: Cells,
     own: [u32; 24],
 ) -> [u32; 24]
-    ensures { result ≡ words_after (Rule.stores_of i.op s (Load.address i.imm s.offset s.cursor) i lane (lane_of head) even_cell odd_cell (lane_of own)) own }
+    ensures { result ≡ words_after (Rule.stores_of i.op s (Load.address i.imm s.offset s.cursor) i lane (lane_of head) cells.even cells.odd (lane_of own)) own }
 {
-    let op = i.op;
-    if op == 5 {
+    if i.op == op::CONFIG {
         return config_lane(s.edition, i, lane, head, own);
     }
     let a = address(i.imm, s.offset, s.cursor);
     let exchanged = is_exchanged(head);
-    lanewise_words(op, s.srcb, a, i, lane, exchanged, even_cell, odd_cell, own)
+    lanewise_words(s.srcb, a, i, lane, exchanged, cells, own)
 }
 
 // The lane rules: a refusal with the words and the cells as given, or 0 with those after.
@@ -334,30 +340,21 @@ pub fn step_lane(
     i: Insn,
     own: [u32; 24],
     head: [u32; 24],
-    even_cell: u16,
-    odd_cell: u16,
+    cells: Cells,
 ) -> Stepped
-    ensures { result ≡ Refusals.lane_step s lane i own head even_cell odd_cell }
+    ensures { result ≡ Refusals.lane_step s lane i own head cells.even cells.odd }
 {
-    let answer = lane_answer(s, lane, i, own, head);
-    if answer == 0 {
-        let n = lane as u8;
-        let words = lane_words(s, i, n, head, even_cell, odd_cell, own);
-        let cells = lane_cells(s, i, n, head, even_cell, odd_cell, own);
-        Stepped {
-            answer: 0,
-            words,
-            cells,
-        }
-    } else {
-        let cells = Cells {
-            even: even_cell,
-            odd: odd_cell,
-        };
-        Stepped {
-            answer,
+    if let Err(why) = lane_answer(s, lane, i, own, head) {
+        return Stepped {
+            answer: u32::from(why),
             words: own,
             cells,
-        }
+        };
+    }
+    let n = lane as u8;
+    Stepped {
+        answer: 0,
+        words: lane_words(s, i, n, head, cells, own),
+        cells: lane_cells(s, i, n, head, cells, own),
     }
 }

@@ -1,4 +1,8 @@
 // STORE: the cell that it makes of a word. Its address, its cursor and its column are LOAD's.
+
+// The proofs here look into these definitions.
+#![tactic(auto, unfolding(crate::specs::Store::packed_bf16, crate::specs::Store::stored_cell, crate::specs::Words::pick))]
+
 ghost use Rattle.std.specs.Prelude.{◌≡◌};
 ghost use Rattle.lane.specs.Store as Store;
 

@@ -1,10 +1,14 @@
 // SWAP: which lanes act, the comparison of words, and the decision.
+
+// The proofs here look into these definitions.
+#![tactic(auto, unfolding(crate::specs::Words::pick))]
+
 ghost use Rattle.std.specs.Prelude.{◌≡◌, ◌+◌, ◌-◌, nat_lt, slice_index};
-ghost use Rattle.lane.specs.Words.{pick};
+ghost use Rattle.lane.specs.Words.{pick, lane_of};
 ghost use Rattle.lane.specs.Swap as Swap;
 
 use crate::Order;
-use crate::words::{enabled, keep};
+use crate::words::{LANE_CONFIG, is_enabled, is_set, keep};
 
 // For each mod, the lanes in which vd wants the minimum, lane 0 the lowest bit.
 pub const MASKS: [u32; 16] = [
@@ -16,29 +20,28 @@ pub const MASKS: [u32; 16] = [
 pub fn mask_in(masks: &[u32; 16], m: u32) -> u32
     ensures { result ≡ pick (nat_lt m 16) (slice_index masks.now m) 0 }
 {
-    if m < 16 { masks[m as usize] } else { 0 }
+    masks.get(m as usize).copied().unwrap_or(0)
 }
 
 // The lanes in which vd wants the minimum, for mod `m`.
 pub(crate) fn mask_of(m: u32) -> u32
     ensures { result ≡ Swap.mask_of m }
 {
-    let masks = MASKS;
-    mask_in(&masks, m)
+    mask_in(&MASKS, m)
 }
 
 // Whether a lane is among those of a mask.
 pub fn in_mask(mask: u32, lane: u8) -> bool
     ensures { result ≡ Swap.in_mask mask lane }
 {
-    (mask >> (lane % 32)) % 2 == 1
+    is_set(mask, (lane % 32) as u32)
 }
 
 // Whether SWAP, or LUT, acts in a lane.
-pub(crate) fn acts(vd: u32, config: u32, use_flag: u32, lane_flag: u32) -> bool
-    ensures { result ≡ Swap.acts_by vd config use_flag lane_flag }
+pub(crate) fn acts(vd: u32, own: &[u32; 24]) -> bool
+    ensures { result ≡ Swap.acts vd (lane_of own.now) }
 {
-    ((vd < 12) | (config / 16 % 2 == 1)) & enabled(use_flag, lane_flag)
+    ((vd < 12) | (own[LANE_CONFIG] / 16 % 2 == 1)) & is_enabled(own)
 }
 
 // A word's place in the order of ranks, the lowest 0, so that comparing numbers compares ranks. The last exclusive or is that of a signed comparison's
@@ -68,11 +71,7 @@ pub fn compared(c: u32, d: u32) -> Order
 pub fn is_below(order: Order) -> bool
     ensures { result ≡ Swap.is_below order }
 {
-    match order {
-        Order::Below => true,
-        Order::Equal => false,
-        Order::Above => false,
-    }
+    order == Order::Below
 }
 
 // Whether a lane swaps: always, or by the order that vd wants, which bit 8 reverses.

@@ -4,17 +4,15 @@ use Prim.Native.Nat.{ℕ, zero, suc, ◌*◌, ◌≤◌}
 use native.Mathlib.Omega.{arith}
 use mathlib.Core.Bool.{Bool, true, false}
 use mathlib.Core.List.{List, []}
-use lib.ListN.{get_or}
-use lib.Dec.{eqb, ltb}
-use borrow.Author.Tests.{eq-eqb, ne_eqb, ltb-true}
 use Rattle.lane.specs.Words.{pick}
 use Rattle.lane.proofs.Cases.{pick_true, pick_false}
 use Rattle.runner.specs.Checks.{list_limit}
+use Rattle.listing.specs.declared.formats.Format as Code
+use Rattle.listing.specs.declared.formats.Format.TheVariants.{Old, Two}
 use Rattle.listing.specs.Forms.{faulty, follow, ends, lines_in, scan, scan_item, scan_byte, takes, spell, bytes, literal, begins}
 use Rattle.listing.specs.PrivatePlaces.{item_of, form_of, numbers, widest, widest_item}
-use Rattle.listing.specs.PrivateReader.{format_by, form_by, FormatOf, Letters}
+use Rattle.listing.specs.PrivateReader.{row}
 use Rattle.listing.specs.Listing.{Format, old, two, format_among, format_of, header_with, head, first_line, line, lines}
-use Rattle.listing.proofs.Names.{every, every_at}
 use Rattle.listing.proofs.Trips.{numbers_append}
 
 -- ---- the forms that the code has
@@ -88,67 +86,16 @@ of_every P a b t = go (begins two.mark t) (begins old.mark t)
 pub text_sound : (t : List ℕ) → Sound (format_of t)
 text_sound = of_every Sound two_sound old_sound
 
--- ---- by number
+-- ---- a format of the code
 
-module _ (k : ℕ) where
-  pub by_two : k ≡ 2 → format_by k ≡ two
-  unfolding format_by
-  by_two h = pick_true _ _ _ (eq-eqb k 2 h)
+pub row_sound : (k : Code.Format) → Sound (row k)
+row_sound Old = old_sound
+row_sound Two = two_sound
 
-  pub by_old : (k ≡ 2 → ⊥) → format_by k ≡ old
-  unfolding format_by
-  by_old h = pick_false _ _ _ (ne_eqb k 2 h)
-
-  pub by_line : k ≡ 0 → form_by k ≡ line
-  unfolding form_by
-  by_line h = pick_true _ _ _ (eq-eqb k 0 h)
-
-  pub by_head : (k ≡ 0 → ⊥) → form_by k ≡ head (format_by k)
-  unfolding form_by
-  by_head h = pick_false _ _ _ (ne_eqb k 0 h)
-
-  pub by_sound : Sound (format_by k)
-  unfolding format_by pick
-  by_sound = go (eqb k 2)
-    where
-      go : (t : Bool) → Sound (pick t two old)
-      go true = two_sound
-      go false = old_sound
-
-line_no_text : scan line [] ≡ faulty 0
-unfolding scan follow scan_item scan_byte line bytes spell literal
-line_no_text = refl
-
-pub form_no_text : (k : ℕ) → scan (form_by k) [] ≡ faulty 0
-unfolding form_by pick
-form_no_text k = go (eqb k 0)
-  where
-    go : (t : Bool) → scan (pick t line (head (format_by k))) [] ≡ faulty 0
-    go true = line_no_text
-    go false = (by_sound k).no_text
-
-pub first_line_two : (k : ℕ) → k ≡ 2 → 11 ≡ first_line (format_by k)
-unfolding first_line lines_in ends head header_with bytes spell literal pick
-first_line_two k h = rw (by_two k h) refl
-
-pub first_line_old : (k : ℕ) → (k ≡ 2 → ⊥) → 10 ≡ first_line (format_by k)
-unfolding first_line lines_in ends head header_with bytes spell literal pick
-first_line_old k h = rw (by_old k h) refl
-
--- ---- the format of a text
-
-letters : every 9 (λ i. ltb 0 (get_or two.mark i 0)) ≡ true
-unfolding every bytes spell
-letters = refl
-
-pub mark_letters : Letters two.mark
-unfolding bytes spell
-mark_letters i h = ltb-true _ _ (every_at 9 _ i h letters)
-
-pub marked : (t : List ℕ) → begins two.mark t ≡ true → FormatOf t 2
+pub marked : (t : List ℕ) (b : Bool) → b ≡ begins two.mark t → b ≡ true → format_of t ≡ two
 unfolding format_among
-marked t h = (omega arith, pick_true _ _ _ h ∙ sym (by_two 2 refl))
+marked t b e h = pick_true _ _ _ (sym e ∙ h)
 
-pub unmarked : (t : List ℕ) → begins two.mark t ≡ false → FormatOf t 1
+pub unmarked : (t : List ℕ) (b : Bool) → b ≡ begins two.mark t → b ≡ false → format_of t ≡ old
 unfolding format_among begins
-unmarked t h = (omega arith, pick_false _ _ _ h ∙ pick_true _ _ _ refl ∙ sym (by_old 1 (λ e. omega arith)))
+unmarked t b e h = pick_false _ _ _ (sym e ∙ h) ∙ pick_true _ _ _ refl

@@ -9,7 +9,7 @@ use mathlib.Core.Bool.{Bool, true, false}
 use mathlib.Core.List.{List, ◌∷◌}
 use lib.ListN.{length, get_or, drop}
 use lib.Seq.{drop-cons}
-use lib.Dec.{eqb}
+use lib.Dec.{eqb, ltb, leb}
 use borrow.Author.Tests.{lt-ltb, le-ltb, le-leb, lt-leb, eq-eqb, ne_eqb}
 use mir.Val.{bool_byte}
 use Rattle.lane.specs.Words.{pick}
@@ -26,11 +26,6 @@ module _ (x : ℕ) where
   unfolding item_of
   item_name h = pick_false _ _ _ (le-ltb x 10 (omega arith)) ∙ pick_true _ _ _ (eq-eqb x 14 h)
 
-  pub item_low : 10 ≤ x → (x ≡ 14 → ⊥) → x < 16 → item_of x ≡ lit x
-  unfolding item_of
-  item_low h n l =
-      pick_false _ _ _ (le-ltb x 10 h) ∙ pick_false _ _ _ (ne_eqb x 14 n) ∙ pick_true _ _ _ (lt-ltb x 16 l)
-
   pub item_hex : 16 ≤ x → x ≤ 24 → item_of x ≡ hex (x - 16)
   unfolding item_of
   item_hex h l =
@@ -38,15 +33,13 @@ module _ (x : ℕ) where
       ∙ pick_false _ _ _ (le-ltb x 16 h)
       ∙ pick_true _ _ _ (le-leb x 24 l)
 
-  pub item_high : 24 < x → item_of x ≡ lit x
+  pub item_lit : 10 ≤ x → (x ≡ 14 → ⊥) → (16 ≤ x → 24 < x) → item_of x ≡ lit x
   unfolding item_of
-  item_high h =
-      pick_false _ _ _ (le-ltb x 10 (omega arith)) ∙ pick_false _ _ _ (ne_eqb x 14 (λ e. omega arith))
-      ∙ pick_false _ _ _ (le-ltb x 16 (omega arith))
-      ∙ pick_false _ _ _ (lt-leb x 24 h)
-
-  pub dec_fits : x < 10 → 10 ^ x ≤ 2 ^ 32
-  dec_fits h = let p : 10 ^ x ≤ 10 ^ 9 = pow-le-pow_right (omega arith) {i = x} {j = 9} (omega arith) in omega arith
+  item_lit h n k = pick_false _ _ _ (le-ltb x 10 h) ∙ pick_false _ _ _ (ne_eqb x 14 n) ∙ go (dec_lt x 16)
+    where
+      go : Dec (x < 16) → pick (ltb x 16) (lit x) (pick (leb x 24) (hex (x - 16)) (lit x)) ≡ lit x
+      go (yes l) = pick_true _ _ _ (lt-ltb x 16 l)
+      go (no l) = pick_false _ _ _ (le-ltb x 16 (omega arith)) ∙ pick_false _ _ _ (lt-leb x 24 (k (omega arith)))
 
   pub hex_fits : x ≤ 24 → 16 ^ (x - 16) ≤ 2 ^ 32
   hex_fits h = let p : 16 ^ (x - 16) ≤ 16 ^ 8 = pow-le-pow_right (omega arith) {i = x - 16} {j = 8} (omega arith) in omega arith
@@ -69,8 +62,8 @@ ends_byte x = go (dec_lt x 10) (ℕ_discrete x 14) (dec_lt x 16) (dec_lt 24 x)
     go : Dec (x < 10) → Dec (x ≡ 14) → Dec (x < 16) → Dec (24 < x) → ends (item_of x) ≡ bool_byte (eqb x 10)
     go (yes h) _ _ _ = not_ten (dec x) (item_dec x h) refl (λ e. omega arith)
     go (no h) (yes n) _ _ = not_ten name (item_name x n) refl (λ e. omega arith)
-    go (no h) (no n) (yes l) _ = at (item_low x (omega arith) n l)
-    go (no h) (no n) (no l) (yes k) = at (item_high x k)
+    go (no h) (no n) (yes l) _ = at (item_lit x (omega arith) n (λ k. omega arith))
+    go (no h) (no n) (no l) (yes k) = at (item_lit x (omega arith) n (λ _. k))
     go (no h) (no n) (no l) (no k) = not_ten (hex (x - 16)) (item_hex x (omega arith) (omega arith)) refl (λ e. omega arith)
 
 -- the item at a form's position

@@ -82,10 +82,10 @@ digits_numeric b (suc w) k t h d =
     small : (c : ℕ) → 48 ≤ c → c ≤ 57 → ltb (digit c) b ≡ true
     small c p q = rw (digit_is c p q) (lt-ltb (c - 48) b (omega arith))
 
-digits_scan : (b w k : ℕ) (t : List ℕ) → 10 ≤ b → b ≤ 36 → k + w ≤ length t → DigitsFrom w k t
+digits_scan : (b w k : ℕ) (t : List ℕ) → 10 ≤ b → DigitsFrom w k t
     → scan_number b w (drop k t) ≡ taken (number b w (drop k t) ∷ []) (drop (k + w) t)
-digits_scan b w k t h i l d =
-    (number_ends b w w t k (number b w (drop k t)) (omega arith) (omega arith) i (digits_numeric b w k t h d) refl (omega arith)).1
+digits_scan b w k t h d =
+    number_ends b w t k (number b w (drop k t)) (digits_numeric b w k t h d) refl
 
 -- ---- a form
 
@@ -153,13 +153,13 @@ module _ (op : ℕ) (z : 0 < op) (s : op ≤ 16) (t : List ℕ) where
       let e : length (replicate w (48 + 0)) ≡ length (replicate w (48 + 9)) = n ∙ sym (length-replicate w (48 + 9)) in
       let d = lies_digits w k t (lies_first (replicate w (48 + 0)) (spelled 0 op f) (replicate w (48 + 9)) (spelled 9 op f) t k e h) in
       let r = between f (k + w) (omega arith) (rw n at (lies_rest (replicate w (48 + 0)) (spelled 0 op f) (replicate w (48 + 9)) (spelled 9 op f) t k e h)) in
-      record { there = then_rest (dec w) f op k w t _ (digits_scan 10 w k t (omega arith) (omega arith) (omega arith) d) r; digits = (d, r.digits) }
+      record { there = then_rest (dec w) f op k w t _ (digits_scan 10 w k t (omega arith) d) r; digits = (d, r.digits) }
   between (hex w ∷ f) k l h =
       let n = length-replicate w (48 + 0) in
       let e : length (replicate w (48 + 0)) ≡ length (replicate w (48 + 9)) = n ∙ sym (length-replicate w (48 + 9)) in
       let d = lies_digits w k t (lies_first (replicate w (48 + 0)) (spelled 0 op f) (replicate w (48 + 9)) (spelled 9 op f) t k e h) in
       let r = between f (k + w) (omega arith) (rw n at (lies_rest (replicate w (48 + 0)) (spelled 0 op f) (replicate w (48 + 9)) (spelled 9 op f) t k e h)) in
-      record { there = then_rest (hex w) f op k w t _ (digits_scan 16 w k t (omega arith) (omega arith) (omega arith) d) r; digits = (d, r.digits) }
+      record { there = then_rest (hex w) f op k w t _ (digits_scan 16 w k t (omega arith) d) r; digits = (d, r.digits) }
   between (name ∷ f) k l h =
       let r = between f (k + length (name_of op)) (omega arith) (lies_rest (name_of op) (spelled 0 op f) (name_of op) (spelled 9 op f) t k refl h) in
       let a = settled name (name_of op) (op ∷ []) k (omega arith) (lies_first (name_of op) (spelled 0 op f) (name_of op) (spelled 9 op f) t k refl h) (λ u. item_back name (op ∷ []) u (omega arith) (z, s)) in
@@ -281,11 +281,8 @@ rows_of d table e op j z s l =
     let r : in_row d table op ≡ true = rw k at (every_at 16 (λ n. in_row d table (n + 1)) (op - 1) (omega arith) e) in
     eqb-true _ _ (every_at (line_length op) (λ i. eqb (get_or table (48 * op + i) 0) (get_or (spelled d op line) i 0)) j l r)
 
-pub low_rows : RowsOf 0 low_bytes
-low_rows = rows_of 0 low_bytes every_low
-
-pub high_rows : RowsOf 9 high_bytes
-high_rows = rows_of 9 high_bytes every_high
+pub line_rows : Rows low_bytes high_bytes
+line_rows = (rows_of 0 low_bytes every_low, rows_of 9 high_bytes every_high)
 
 -- no line is longer than a row
 pub length_line : (op : ℕ) → line_length op ≤ 45

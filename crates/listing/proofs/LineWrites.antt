@@ -5,8 +5,9 @@ use native.Mathlib.Nat.{add-zero}
 use native.Mathlib.Omega.{arith}
 use mathlib.Core.List.{List, [], ◌∷◌, ◌++◌, append_assoc}
 use lib.ListN.{length, get_or, take, drop, set, length-set, length-append, length-drop, get_or-append}
-use lib.Seq.{get_or-drop, get_or-take, length-take-le, take-length, drop-append_seam, ext_get_or}
+use lib.Seq.{get_or-drop, get_or-take, length-take-le, drop-append_seam, ext_get_or}
 use borrow.Author.Tests.{lt-ltb}
+use borrow.Rule.Slice.PartMut.{mid_of}
 use Rattle.lane.proofs.Cases.{pick_true}
 use Rattle.listing.specs.Forms.{glyph, digits, name_of, bytes, spell, literal, render, render_item, takes}
 use Rattle.listing.specs.Listing.{line}
@@ -72,14 +73,6 @@ five_stores out at n l =
 
 -- ---- parts
 
--- all of a table
-pub whole_part : (bs : List ℕ) (n : ℕ) → n ≡ length bs → take n (drop 0 bs) ≡ bs
-whole_part bs n e = ap (λ (k : ℕ). take k bs) e ∙ take-length bs
-
-pub then_part : (p m n : ℕ) (before mid after xs ys zs : List ℕ) → Grown p m before mid xs → Grown m n mid after ys → xs ++ ys ≡ zs
-    → Grown p n before after zs
-then_part p m n before mid after xs ys zs g h e = rw (← e) (grown_more p m before mid xs g n after ys h)
-
 -- what an op's row begins with
 abbrev pub opening : ℕ → List ℕ
 opening op = bytes "op=" ++ (name_of op ++ bytes "imm=")
@@ -98,7 +91,7 @@ row_opens op = sym (begins_with (name_of op) _)
         let e : x ++ (105 ∷ 109 ∷ 109 ∷ 61 ∷ y) ≡ (x ++ (105 ∷ 109 ∷ 109 ∷ 61 ∷ [])) ++ y = sym (append_assoc x (105 ∷ 109 ∷ 109 ∷ 61 ∷ []) y) in
         rw (e, drop-append_seam (111 ∷ 112 ∷ 61 ∷ (x ++ (105 ∷ 109 ∷ 109 ∷ 61 ∷ []))) y) refl
 
-pub row_opening : (lows : List ℕ) (op n : ℕ) → RowsOf 0 lows → length lows ≡ 816 → 0 < op → op ≤ 16 → n ≡ line_length op
+row_opening : (lows : List ℕ) (op n : ℕ) → RowsOf 0 lows → length lows ≡ 816 → 0 < op → op ≤ 16 → n ≡ line_length op
     → take (n - 31) (drop (48 * op) lows) ≡ opening op
 row_opening lows op n rows long z s e =
     ext_get_or 0 (take (n - 31) (drop (48 * op) lows)) (opening op) same
@@ -116,57 +109,60 @@ row_opening lows op n rows long z s e =
 
 -- ---- a line
 
-module _ (l : List ℕ) (k : ℕ) where
-  one : get_or (drop k l) 0 0 ≡ get_or l k 0
-  one = get_or-drop k l 0 0 ∙ ap (λ (n : ℕ). get_or l n 0) (add-zero k)
+pub line_rendered : (ns : List ℕ) → opening (get_or ns 0 0) ++ (digits 10 5 (get_or ns 1 0) ++ fields_of ns) ≡ render line ns
+unfolding render render_item takes fields_of line bytes spell literal
+line_rendered ns =
+    simp get_or-drop
+    (ap (λ (x : List ℕ). 111 ∷ 112 ∷ 61 ∷ x) (append_assoc (name_of (get_or ns 0 0)) (105 ∷ 109 ∷ 109 ∷ 61 ∷ []) _))
 
-  two : get_or (drop 1 (drop k l)) 0 0 ≡ get_or l (k + 1) 0
-  two = get_or-drop 1 (drop k l) 0 0 ∙ get_or-drop k l 1 0
-
-  three : get_or (drop 1 (drop 1 (drop k l))) 0 0 ≡ get_or l (k + 2) 0
-  three = get_or-drop 1 (drop 1 (drop k l)) 0 0 ∙ get_or-drop 1 (drop k l) 1 0 ∙ get_or-drop k l 2 0
-
-  four : get_or (drop 1 (drop 1 (drop 1 (drop k l)))) 0 0 ≡ get_or l (k + 3) 0
-  four = get_or-drop 1 (drop 1 (drop 1 (drop k l))) 0 0 ∙ get_or-drop 1 (drop 1 (drop k l)) 1 0 ∙ get_or-drop 1 (drop k l) 2 0 ∙ get_or-drop k l 3 0
-
-  five : get_or (drop 1 (drop 1 (drop 1 (drop 1 (drop k l))))) 0 0 ≡ get_or l (k + 4) 0
-  five =
-      get_or-drop 1 (drop 1 (drop 1 (drop 1 (drop k l)))) 0 0 ∙ get_or-drop 1 (drop 1 (drop 1 (drop k l))) 1 0 ∙ get_or-drop 1 (drop 1 (drop k l)) 2 0
-      ∙ get_or-drop 1 (drop k l) 3 0
-      ∙ get_or-drop k l 4 0
-
-  six : get_or (drop 1 (drop 1 (drop 1 (drop 1 (drop 1 (drop k l)))))) 0 0 ≡ get_or l (k + 5) 0
-  six =
-      get_or-drop 1 (drop 1 (drop 1 (drop 1 (drop 1 (drop k l))))) 0 0 ∙ get_or-drop 1 (drop 1 (drop 1 (drop 1 (drop k l)))) 1 0
-      ∙ get_or-drop 1 (drop 1 (drop 1 (drop k l))) 2 0
-      ∙ get_or-drop 1 (drop 1 (drop k l)) 3 0
-      ∙ get_or-drop 1 (drop k l) 4 0
-      ∙ get_or-drop k l 5 0
-
-  pub line_rendered : opening (get_or l k 0) ++ (digits 10 5 (get_or l (k + 1) 0) ++ fields_of l k) ≡ render line (drop k l)
-  unfolding render render_item takes fields_of line bytes spell literal
-  line_rendered =
-      rw (one, two, three, four, five, six)
-      (ap (λ (x : List ℕ). 111 ∷ 112 ∷ 61 ∷ x) (append_assoc (name_of (get_or l k 0)) (105 ∷ 109 ∷ 109 ∷ 61 ∷ []) _))
+-- a line takes six numbers
+pub line_front : (ns : List ℕ) → render line (take 6 ns) ≡ render line ns
+unfolding fields_of
+line_front ns =
+    sym (line_rendered (take 6 ns))
+    ∙ rw (
+      get_or-take 6 ns 0 0 (omega arith),
+      get_or-take 6 ns 1 0 (omega arith),
+      get_or-take 6 ns 2 0 (omega arith),
+      get_or-take 6 ns 3 0 (omega arith),
+      get_or-take 6 ns 4 0 (omega arith),
+      get_or-take 6 ns 5 0 (omega arith),
+    )
+    (line_rendered ns)
 
 -- ---- where parts end
 
 module _ (p n : ℕ) (before after : List ℕ) where
-  pub part_end : (bs : List ℕ) (f m : ℕ) → Grown p n before after (take m (drop f bs)) → f + m ≤ length bs → n ≡ p + m
-  part_end bs f m g h = g.up_to ∙ ap (λ (k : ℕ). p + k) (length-take-le m (drop f bs) (omega (arith, length-drop f bs)))
-
   pub digits_end : (w v : ℕ) → Grown p n before after (digits 10 w v) → n ≡ p + w
   digits_end w v g = g.up_to ∙ ap (λ (k : ℕ). p + k) (length_digits 10 w v)
 
-  pub field_end : (bs : List ℕ) (v : ℕ) → length bs ≡ 4 → Grown p n before after (bs ++ digits 10 2 v) → n ≡ p + 6
-  field_end bs v e g = omega (arith, g.up_to, length-append bs (digits 10 2 v), length_digits 10 2 v)
+  pub field_end : (bs : List ℕ) (m v : ℕ) → length bs ≡ m → Grown p n before after (bs ++ digits 10 2 v) → n ≡ p + m + 2
+  field_end bs m v e g = omega (arith, g.up_to, length-append bs (digits 10 2 v), length_digits 10 2 v)
 
 -- ---- a whole line
 
+module _ (lows : List ℕ) (op n : ℕ) (rows : RowsOf 0 lows) (long : length lows ≡ 816) (z : 0 < op) (s : op ≤ 16) (e : n ≡ line_length op) where
+  -- what an op's row begins with was copied
+  pub opening_put : (at a : ℕ) (before one : List ℕ) → Grown at a before one (mid_of (48 * op) (48 * op + (n - 31) - 48 * op) lows)
+      → Grown at a before one (opening op)
+  opening_put at a before one g =
+      let k : 48 * op + (n - 31) - 48 * op ≡ n - 31 = omega arith in
+      rw (k, row_opening lows op n rows long z s e) at g
+
+  pub opening_end : (at a : ℕ) (before one : List ℕ) → Grown at a before one (opening op) → a ≡ at + (n - 31)
+  opening_end at a before one g = omega (arith, g.up_to, opening_length op)
+
+pub line_joined : (ns : List ℕ) (at a b r : ℕ) (before one two after : List ℕ) → Grown at a before one (opening (get_or ns 0 0))
+    → Grown a b one two (digits 10 5 (get_or ns 1 0)) → Grown b r two after (fields_of ns) → Grown at r before after (render line ns)
+line_joined ns at a b r before one two after f g h =
+    rw (← (line_rendered ns)) (grown_more at a before one _ f r after _ (grown_more a b one two _ g r after _ h))
+
+-- the same of a list from one of its words on, with the opening out of the table
 pub line_put : (lows list : List ℕ) (k n : ℕ) → RowsOf 0 lows → length lows ≡ 816 → 0 < get_or list k 0 → get_or list k 0 ≤ 16 → n ≡ line_length (get_or list k 0)
     → (at a b r : ℕ) (before one two after : List ℕ) → Grown at a before one (take (n - 31) (drop (48 * get_or list k 0) lows))
-    → Grown a b one two (digits 10 5 (get_or list (k + 1) 0)) → Grown b r two after (fields_of list k)
+    → Grown a b one two (digits 10 5 (get_or list (k + 1) 0)) → Grown b r two after (fields_of (drop k list))
     → Grown at r before after (render line (drop k list))
 line_put lows list k n rows long z s e at a b r before one two after f g h =
+    let first : get_or (drop k list) 0 0 ≡ get_or list k 0 = get_or-drop k list 0 0 ∙ ap (λ (j : ℕ). get_or list j 0) (add-zero k) in
     let o : Grown at a before one (opening (get_or list k 0)) = rw (row_opening lows (get_or list k 0) n rows long z s e) at f in
-    rw (← (line_rendered list k)) (grown_more at a before one _ o r after _ (grown_more a b one two _ g r after _ h))
+    line_joined (drop k list) at a b r before one two after (rw first o) (rw (get_or-drop k list 1 0) g) h

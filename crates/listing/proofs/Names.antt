@@ -1,13 +1,13 @@
 -- Op names: no name begins another, so that the name that was written is the one that is read. Assumes nothing.
 use mathlib.Core.Path.{◌≡◌, refl, sym, ap, ◌∙◌}
-use Prim.Native.Nat.{ℕ, zero, suc, ◌+◌, ◌-◌, ◌*◌, ◌<◌, ◌≤◌}
+use Prim.Native.Nat.{ℕ, zero, suc, ◌<◌, ◌≤◌}
 use native.Mathlib.Nat.{le_of_suc-le-suc, eq-or-lt_of_le, not-suc-le-zero}
 use native.Mathlib.Omega.{arith}
 use mathlib.Core.Bool.{Bool, true, false, ◌&&◌, ◌||◌, not}
 use mathlib.Core.List.{List, [], ◌∷◌, ◌++◌}
 use mathlib.Core.Logic.{◌⊎◌, inl, inr}
 use native.Mathlib.Decide.{dec_lt}
-use lib.ListN.{length, get_or, drop, get_or-eq_default}
+use lib.ListN.{length, drop, get_or-eq_default}
 use lib.Dec.{eqb, ltb}
 use borrow.Author.Tests.{eq-eqb, ne_eqb, eqb-true, ltb-true}
 use Rattle.lane.specs.Words.{pick}
@@ -102,53 +102,19 @@ op_of_begins (suc n) t h = go (begins (name_of (suc n)) t) refl (op_of_begins n 
     go true e g k = (e, omega arith)
     go false e g k = let q = g k in (q.0, omega arith)
 
--- what the search from 16 down does at one op
-pub op_of_here : (op : ℕ) (t : List ℕ) → 0 < op → begins (name_of op) t ≡ true → op_of op t ≡ op
+-- no name stands there
+pub op_of_none : (n : ℕ) (t : List ℕ) → ((op : ℕ) → 0 < op → op ≤ n → begins (name_of op) t ≡ false) → op_of n t ≡ 0
 unfolding op_of
-op_of_here zero t z h = absurd (not-suc-le-zero z)
-op_of_here (suc n) t z h = pick_true (begins (name_of (suc n)) t) (suc n) (op_of n t) h
+op_of_none zero t h = refl
+op_of_none (suc n) t h =
+    pick_false (begins (name_of (suc n)) t) (suc n) (op_of n t) (h (suc n) (omega arith) (omega arith))
+    ∙ op_of_none n t (λ op z l. h op z (omega arith))
 
-pub op_of_down : (op : ℕ) (t : List ℕ) → 0 < op → begins (name_of op) t ≡ false → op_of op t ≡ op_of (op - 1) t
-unfolding op_of
-op_of_down zero t z h = absurd (not-suc-le-zero z)
-op_of_down (suc n) t z h =
-    pick_false (begins (name_of (suc n)) t) (suc n) (op_of n t) h ∙ ap (λ (k : ℕ). op_of k t) {x = n} {y = suc n - 1} (omega arith)
-
--- ---- the code's table: seventeen cells of seven bytes, and how many of them are the name's
-
-abbrev pub cells : List ℕ
-cells = bytes "       LOAD   LOADI  LUT    SWAP   CONFIG IADD   ABS    AND    OR     XOR    NOT    LZ     EXEXP  EXMAN  NOP    STORE  "
-
-abbrev pub lengths : List ℕ
-lengths = 0 ∷ 5 ∷ 6 ∷ 4 ∷ 5 ∷ 7 ∷ 5 ∷ 4 ∷ 4 ∷ 3 ∷ 4 ∷ 4 ∷ 3 ∷ 6 ∷ 6 ∷ 4 ∷ 6 ∷ []
-
-cells_good : every 17 (λ op. every (length (name_of op)) (λ i. eqb (get_or cells (7 * op + i) 0) (get_or (name_of op) i 0))) ≡ true
-unfolding names name_of bytes spell every
-cells_good = refl
-
-letters : every 17 (λ op. every (length (name_of op)) (λ i. ltb 0 (get_or (name_of op) i 0))) ≡ true
-unfolding names name_of bytes spell every
-letters = refl
-
-lengths_good : every 17 (λ op. eqb (get_or lengths op 0) (length (name_of op))) ≡ true
-unfolding names name_of bytes spell every
-lengths_good = refl
+-- ---- how long names are
 
 lengths_small : every 17 (λ op. ltb (length (name_of op)) 8) ≡ true
 unfolding names name_of bytes spell every
 lengths_small = refl
-
-pub cell_at : (op i : ℕ) → op < 17 → i < length (name_of op) → get_or cells (7 * op + i) 0 ≡ get_or (name_of op) i 0
-cell_at op i h l = eqb-true _ _ (every_at (length (name_of op)) _ i l (every_at 17 _ op h cells_good))
-
-pub letter_at : (op i : ℕ) → op < 17 → i < length (name_of op) → 0 < get_or (name_of op) i 0
-letter_at op i h l = ltb-true _ _ (every_at (length (name_of op)) _ i l (every_at 17 _ op h letters))
-
-pub length_at : (op : ℕ) → op < 17 → get_or lengths op 0 ≡ length (name_of op)
-length_at op h = eqb-true _ _ (every_at 17 _ op h lengths_good)
-
-pub length_name : (op : ℕ) → op < 17 → length (name_of op) < 8
-length_name op h = ltb-true _ _ (every_at 17 _ op h lengths_small)
 
 -- a number past 16 has no name
 pub no_name : (op : ℕ) → 17 ≤ op → name_of op ≡ []
@@ -159,5 +125,5 @@ pub length_names : (op : ℕ) → length (name_of op) ≤ 7
 length_names op = go (dec_lt op 17)
   where
     go : Dec (op < 17) → length (name_of op) ≤ 7
-    go (yes h) = omega (arith, length_name op h)
+    go (yes h) = omega (arith, ltb-true _ _ (every_at 17 _ op h lengths_small))
     go (no h) = rw (no_name op (omega arith)) (omega arith)

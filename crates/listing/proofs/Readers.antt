@@ -3,51 +3,30 @@ use mathlib.Core.Path.{◌≡◌, refl, sym, ap, ◌∙◌}
 use Prim.Native.Nat.{ℕ, suc, ◌+◌, ◌-◌, ◌*◌, ◌/◌, ◌<◌, ◌≤◌}
 use native.Mathlib.Nat.{sub-zero}
 use native.Mathlib.Omega.{arith}
-use mathlib.Core.Bool.{Bool, true, false}
+use mathlib.Core.Bool.{true, false}
 use mathlib.Core.List.{List, [], ◌++◌, append-nil, append_assoc}
-use lib.ListN.{length, take, drop, length-append, drop_of_length-le}
-use lib.Seq.{get_or-take, length-take-le}
+use lib.ListN.{length, take, drop, length-append}
+use lib.Seq.{get_or-take, take-length}
 use borrow.Author.Tests.{eq-eqb, ne_eqb, le-leb, lt-leb}
+use Rattle.std.specs.Prelude.{Result, Ok, Err, IsOk, MatchResult, ⊤}
 use Rattle.lane.specs.declared.Settings.{Settings}
-use Rattle.lane.specs.Words.{pick}
 use Rattle.lane.specs.Refusals.{settings_good, instruction_answer}
 use Rattle.lane.proofs.Cases.{pick_true, pick_false}
-use Rattle.runner.specs.declared.Found.{Found}
-use Rattle.runner.specs.Checks.{insn_at, found, scan as scanList, scanned, list_limit, list_answer}
+use Rattle.runner.specs.declared.Refused.{Refused}
+use Rattle.runner.specs.Checks.{Found, insn_at, found, found_by, scan as scanList, scanned, list_limit, list_answer}
 use Rattle.runner.proofs.Accepted.{list_unset, list_scanned}
 use Rattle.runner.proofs.Scan.{scan_grows}
 use Rattle.listing.specs.declared.Reading.{Reading}
-use Rattle.listing.specs.declared.Scanned.{Scanned}
-use Rattle.listing.specs.Forms.{Form, Scan, taken, faulty, joined, scan}
-use Rattle.listing.specs.PrivatePlaces.{numbers, Grown, Finds, Checked, numbers_of, Whole}
-use Rattle.listing.specs.PrivateReader.{format_by, FormatOf, FoundAt, first_refused, Checking, Filling, Reads}
+use Rattle.listing.specs.declared.Fault.{Fault}
+use Rattle.listing.specs.Forms.{Scan, taken, faulty, joined, scan}
+use Rattle.listing.specs.PrivatePlaces.{numbers, Grown, FormAt, FaultAt, numbers_of, Whole}
+use Rattle.listing.specs.PrivateReader.{first_refused, Checking, Checked, Filling, Reads}
 use Rattle.listing.specs.PrivateLines.{words_of, PlainAt}
 use Rattle.listing.specs.Listing.{Format, format_of, head, first_line, line, lines, settings_of, count_in, in_front, Read, refused_reading, refuse_read, accepted_reading, read_list, read_rest, read_header, read_as, text_limit, read_text}
-use Rattle.listing.proofs.FormatTable.{line_numbers, line_lines, lines_numbers, by_line, by_head, by_sound, form_no_text}
+use Rattle.listing.proofs.FormatTable.{line_numbers, line_lines, lines_numbers}
 use Rattle.listing.proofs.Joins.{joined_none, joined_joined, joined_end, joined_taken, scan_then, scan_not}
-use Rattle.listing.proofs.Rooms.{grown_none, grown_more, grown_whole}
+use Rattle.listing.proofs.Rooms.{grown_more, grown_whole}
 use Rattle.listing.proofs.Trips.{apart, scan_whole}
-
--- ---- what the reader finds
-
-pub found_past : (t : List ℕ) (at first k : ℕ) (room : List ℕ) → length t < at
-    → FoundAt t at first k (record { good = false; at = length t; line = first; n = 0; numbers = room })
-unfolding pick
-found_past t at first k room h =
-    let z : first - first ≡ 0 = omega arith in
-    record {
-      scanned = rw (drop_of_length-le t {i = at} (omega arith), z) (form_no_text k);
-      held = omega arith;
-      within = omega arith;
-      onward = omega arith;
-      few = omega arith;
-    }
-
--- as many numbers as the form has
-found_all : (f : Form) (u t : List ℕ) (first : ℕ) (c : Scanned) → Finds (scan f u) t first c → c.good ≡ true → c.n ≡ numbers f
-found_all f u t first c e b =
-    sym (length-take-le c.n c.numbers e.held)
-    ∙ (scan_whole f u (take c.n c.numbers) (drop c.at t) (e.scanned ∙ pick_true _ _ _ b)).count
 
 -- ---- instruction lines
 
@@ -64,25 +43,18 @@ lines_then t ns at end count i e l =
     rw (lines_more count i l, scan_then line (lines (count - (i + 1))) (drop at t) ns (drop end t) e, line_lines) refl
 
 -- one line found at a position
-module _ (t : List ℕ) (at first : ℕ) (c : Scanned) (there : FoundAt t at first 0 c) where
-  line_found : Finds (scan line (drop at t)) t first c
-  line_found = rw (by_line 0 refl) at there
+module _ (t : List ℕ) (at first end l : ℕ) (ns : List ℕ) (there : FormAt line t at first end l ns) where
+  line_taken : scan line (drop at t) ≡ taken (take 6 ns) (drop end t)
+  line_taken = rw line_numbers at there.scanned
 
-  module _ (b : c.good ≡ true) where
-    six_numbers : c.n ≡ 6
-    six_numbers = found_all line (drop at t) t first c line_found b ∙ line_numbers
+  six_long : length (take 6 ns) ≡ 6
+  six_long = (scan_whole line (drop at t) (take 6 ns) (drop end t) line_taken).count ∙ line_numbers
 
-    line_taken : scan line (drop at t) ≡ taken (take 6 c.numbers) (drop c.at t)
-    line_taken =
-        line_found.scanned ∙ pick_true _ _ _ b ∙ ap (λ (n : ℕ). taken (take n c.numbers) (drop c.at t)) six_numbers
-
-    six_long : length (take 6 c.numbers) ≡ 6
-    six_long = length-take-le 6 c.numbers (omega (arith, line_found.held, six_numbers))
-
-  no_line : c.good ≡ false → (count i : ℕ) → i < count → scan (lines (count - i)) (drop at t) ≡ faulty (c.line - first)
-  no_line b count i l =
-      rw (lines_more count i l)
-      (scan_not line (lines (count - (i + 1))) (drop at t) (c.line - first) (line_found.scanned ∙ pick_false _ _ _ b))
+-- no line is there
+no_line : (t : List ℕ) (at first : ℕ) (e : Fault) → FaultAt (scan line (drop at t)) first e → (count i : ℕ) → i < count
+    → scan (lines (count - i)) (drop at t) ≡ faulty (e.line - first)
+no_line t at first e there count i l =
+    rw (lines_more count i l) (scan_not line (lines (count - (i + 1))) (drop at t) (e.line - first) there.scanned)
 
 -- the first six of a line's numbers are an instruction
 same_insn : (ns : List ℕ) → insn_at (take 6 ns) 0 ≡ insn_at ns 0
@@ -97,24 +69,21 @@ same_insn ns =
       get_or-take 6 ns 5 0 (omega arith),
     )
 
--- the first refused of some instructions and one more: that one, where it is refused and none was before
-module _ (answer place k a next : ℕ) where
-  pub first_new : answer ≡ 0 → next ≡ a → (next ≡ 0 → ⊥) → found next k ≡ first_refused (found answer place) k a
-  unfolding first_refused
-  first_new z e n = sym (pick_true _ _ _ (eq-eqb answer 0 z) ∙ rw (← e) (pick_false _ _ _ (ne_eqb next 0 n)))
-
-  pub first_kept : answer ≡ 0 → next ≡ a → next ≡ 0 → found answer place ≡ first_refused (found answer place) k a
-  unfolding first_refused
-  first_kept z e n = sym (pick_true _ _ _ (eq-eqb answer 0 z) ∙ rw (← e) (pick_true _ _ _ (eq-eqb next 0 n)))
-
-pub first_held : (answer place k a : ℕ) → (answer ≡ 0 → ⊥) → found answer place ≡ first_refused (found answer place) k a
+-- an instruction that no check refuses leaves the first refused as it is
+pub kept : (f : Found) (k a : ℕ) → f.answer ≡ 0 → a ≡ 0 → f ≡ first_refused f k a
 unfolding first_refused
-first_held answer place k a n = sym (pick_false _ _ _ (ne_eqb answer 0 n))
+kept f k a z n = sym (pick_true _ _ _ (eq-eqb f.answer 0 z) ∙ pick_true _ _ _ (eq-eqb a 0 n))
+
+-- after some that are refused by none, one that is refused
+pub first_one : (k n a : ℕ) → n ≡ a → (n ≡ 0 → ⊥) → found n k ≡ first_refused (found 0 0) k a
+unfolding first_refused
+first_one k n a e h =
+    ap (λ (x : ℕ). found x k) e ∙ sym (pick_true _ _ _ (eq-eqb 0 0 refl) ∙ pick_false _ _ _ (ne_eqb a 0 (λ z. h (e ∙ z))))
 
 -- ---- the first time over them
 
 module _ (t : List ℕ) (from count : ℕ) where
-  pub checking_start : from ≤ length t → Checking t from count from 0 0 0
+  pub checking_start : from ≤ length t → Checking t from count from (found 0 0) 0
   unfolding scanList
   checking_start h =
       record {
@@ -126,73 +95,57 @@ module _ (t : List ℕ) (from count : ℕ) where
         up_to = omega arith;
       }
 
-  module _ (at answer place i : ℕ) (s : Checking t from count at answer place i) where
+  module _ (at : ℕ) (f : Found) (i : ℕ) (s : Checking t from count at f i) where
     -- one line more
     checking_line : (ns : List ℕ) (end : ℕ) → scan line (drop at t) ≡ taken ns (drop end t) → length ns ≡ 6 → end ≤ length t → i < count
-        → (f : Found) → f ≡ first_refused (found answer place) i (instruction_answer true (insn_at ns 0))
-        → Checking t from count end f.answer f.place (i + 1)
+        → (g : Found) → g ≡ first_refused f i (instruction_answer true (insn_at ns 0)) → Checking t from count end g (i + 1)
     unfolding first_refused
-    checking_line ns end there long within l f e =
+    checking_line ns end there long within l g e =
         record {
           ns = s.ns ++ ns;
           goes = s.goes ∙ rw (lines_then t ns at end count i there l) (joined_joined s.ns ns i 1 _);
-          refused = e ∙ sym (scan_grows s.ns ns i (found answer place) s.six s.refused);
+          refused = e ∙ sym (scan_grows s.ns ns i f s.six s.refused);
           six = omega (arith, s.six, length-append s.ns ns, long);
           within = within;
           up_to = omega arith;
         }
 
-    module _ (first : ℕ) (c : Scanned) (l : i < count) (there : FoundAt t at (first + i) 0 c) where
-      pub checking_more : c.good ≡ true → (f : Found) → f ≡ first_refused (found answer place) i (instruction_answer true (insn_at c.numbers 0))
-          → Checking t from count c.at f.answer f.place (i + 1)
-      checking_more b f e =
-          checking_line (take 6 c.numbers) c.at (line_taken t at (first + i) c there b) (six_long t at (first + i) c there b)
-          (line_found t at (first + i) c there).within
-          l
-          f
-          (rw (same_insn c.numbers) e)
+    module _ (line_at : ℕ) (l : i < count) where
+      pub checking_more : (end after : ℕ) (ns : List ℕ) → FormAt line t at line_at end after ns → (g : Found)
+          → g ≡ first_refused f i (instruction_answer true (insn_at ns 0)) → Checking t from count end g (i + 1)
+      checking_more end after ns there g e =
+          checking_line (take 6 ns) end (line_taken t at line_at end after ns there) (six_long t at line_at end after ns there) there.within l g
+          (rw (same_insn ns) e)
 
-      pub checking_stop : c.good ≡ false
-          → Checked (scan (lines count) (drop from t)) t first count (record { good = false; at = c.at; line = c.line; answer = answer; place = place })
-      unfolding pick joined
-      checking_stop b =
-          let e = line_found t at (first + i) c there in
-          let k : i + (c.line - (first + i)) ≡ c.line - first = omega (arith, e.onward) in
-          let n : length s.ns / 6 ≡ i = omega (arith, s.six) in
+      pub checking_stop : (first : ℕ) → line_at ≡ first + i → (e : Fault) → FaultAt (scan line (drop at t)) line_at e
+          → FaultAt (scan (lines count) (drop from t)) first e
+      unfolding joined
+      checking_stop first z e there =
+          let k : i + (e.line - line_at) ≡ e.line - first = omega (arith, there.onward) in
           record {
-            ns = s.ns;
-            taken_or = s.goes ∙ rw (no_line t at (first + i) c there b count i l) (ap faulty k);
-            refused = s.refused ∙ ap (scanList s.ns 0) (sym n);
-            sixes = λ z. absurd (no z);
-            within = e.within;
-            onward = omega (arith, e.onward);
+            scanned = s.goes ∙ rw (no_line t at line_at e there count i l) (ap faulty k);
+            onward = omega (arith, there.onward);
           }
-        where
-          no : false ≡ true → ⊥
-          no z = let o : ◌≡◌ {A = ℕ} 0 1 = cc in omega arith
 
-    pub checking_end : (first : ℕ) → count ≤ i
-        → Checked (scan (lines count) (drop from t)) t first count (record { good = true; at = at; line = first + i; answer = answer; place = place })
-    unfolding pick lines scan
-    checking_end first l =
+    pub checking_end : (r : Result ⊤ Refused) → f ≡ found_by r → count ≤ i → Checked t from count (record { at = at; found = r })
+    unfolding lines scan
+    checking_end r e l =
         let z : count - i ≡ 0 = omega arith in
         let n : length s.ns / 6 ≡ i = omega (arith, s.six) in
         record {
           ns = s.ns;
-          taken_or = s.goes ∙ rw z (joined_end s.ns i (drop at t));
-          refused = s.refused ∙ ap (scanList s.ns 0) (sym n);
-          sixes = λ b. omega (arith, s.six, s.up_to);
+          whole = s.goes ∙ rw z (joined_end s.ns i (drop at t));
+          refused = sym e ∙ s.refused ∙ ap (scanList s.ns 0) (sym n);
           within = s.within;
-          onward = omega arith;
         }
 
 -- a plain line refuses nothing
-pub checking_plain : (t : List ℕ) (from count at i end : ℕ) → Checking t from count at 0 0 i → i < count → PlainAt t at end
-    → Checking t from count end 0 0 (i + 1)
+pub checking_plain : (t : List ℕ) (from count at i end : ℕ) → Checking t from count at (found 0 0) i → i < count → PlainAt t at end
+    → Checking t from count end (found 0 0) (i + 1)
 unfolding insn_at
 checking_plain t from count at i end s l p =
-    checking_line t from count at 0 0 i s (words_of p.insn) end p.stands.scanned refl p.stands.within l (found 0 0)
-    (first_kept 0 0 i (instruction_answer true p.insn) 0 refl (sym p.accepted) refl)
+    checking_line t from count at (found 0 0) i s (words_of p.insn) end p.stands.scanned refl p.stands.within l (found 0 0)
+    (kept (found 0 0) i (instruction_answer true p.insn) refl p.accepted)
 
 -- ---- the second time
 
@@ -202,65 +155,37 @@ unfolding numbers_of
 taken_whole s ns rest e = (record { rest = rest; whole = rw e refl }, rw e refl)
 
 module _ (t : List ℕ) (from count : ℕ) (before : List ℕ) where
-  pub filling_start : from ≤ length t → Whole (scan (lines count) (drop from t)) → Filling t from count before before from 0 0
-  filling_start h w =
-      record {
-        done = [];
-        left = numbers_of (scan (lines count) (drop from t));
-        rest = w.rest;
-        goes = refl;
-        still = rw (sub-zero count) w.whole;
-        grown = grown_none 0 before;
-        same = refl;
-        six = refl;
-        within = h;
-        up_to = omega arith;
-      }
-
-  module _ (list : List ℕ) (at n i : ℕ) (s : Filling t from count before list at n i) where
-    pub filling_room : i < count → 6 * count ≤ length before → n + 6 ≤ length list
-    filling_room l h = omega (arith, s.six, s.same)
-
+  module _ (list : List ℕ) (at i : ℕ) (s : Filling t from count before list at i) where
     -- one line more
     pub filling_line : (ns : List ℕ) (end : ℕ) → scan line (drop at t) ≡ taken ns (drop end t) → length ns ≡ 6 → end ≤ length t → i < count
-        → (m : ℕ) (after : List ℕ) → Grown n m list after ns → length after ≡ length list → Filling t from count before after end m (i + 1)
+        → (m : ℕ) (after : List ℕ) → Grown (6 * i) m list after ns → length after ≡ length list → Filling t from count before after end (i + 1)
     filling_line ns end there long within l m after g k =
         let j = joined_taken ns 1 (scan (lines (count - (i + 1))) (drop end t)) s.left s.rest (sym (lines_then t ns at end count i there l) ∙ s.still) in
+        let six : m ≡ 6 * (i + 1) = omega (arith, g.up_to, long) in
         record {
           done = s.done ++ ns;
           left = j.0;
           rest = s.rest;
           goes = s.goes ∙ ap (λ (x : List ℕ). s.done ++ x) j.1.1 ∙ sym (append_assoc s.done ns j.0);
           still = j.1.0;
-          grown = grown_more 0 n before list s.done s.grown m after ns g;
+          grown = rw (← six) (grown_more 0 (6 * i) before list s.done s.grown m after ns g);
           same = k ∙ s.same;
-          six = omega (arith, s.six, g.up_to, long);
           within = within;
           up_to = omega arith;
         }
 
-    module _ (c : Scanned) (l : i < count) (there : FoundAt t at 1 0 c) where
+    module _ (line_at : ℕ) (l : i < count) where
       -- a line that was in form still is
-      in_form_lem : c.good ≡ true
-      in_form_lem = go c.good refl
-        where
-          go : (b : Bool) → c.good ≡ b → c.good ≡ true
-          go true e = e
-          go false e = absurd (apart s.left s.rest (c.line - 1) (sym (no_line t at 1 c there e count i l) ∙ s.still))
+      pub filling_there : (P : List ℕ → Type 0) (r : Result (List ℕ) Fault) → MatchResult r P (FaultAt (scan line (drop at t)) line_at) → IsOk r
+      filling_there P (Ok ns) h = refl
+      filling_there P (Err e) h = absurd (apart s.left s.rest (e.line - line_at) (sym (no_line t at line_at e h count i l) ∙ s.still))
 
-      pub filling_more : (m : ℕ) (after : List ℕ) → Grown n m list after (take 6 c.numbers) → length after ≡ length list
-          → Filling t from count before after c.at m (i + 1)
-      filling_more m after g k =
-          filling_line (take 6 c.numbers) c.at (line_taken t at 1 c there in_form_lem) (six_long t at 1 c there in_form_lem)
-          (line_found t at 1 c there).within
-          l
-          m
-          after
+      pub filling_more : (end after : ℕ) (ns : List ℕ) → FormAt line t at line_at end after ns → (m : ℕ) (put : List ℕ)
+          → Grown (6 * i) m list put (take 6 ns) → length put ≡ length list → Filling t from count before put end (i + 1)
+      filling_more end after ns there m put g k =
+          filling_line (take 6 ns) end (line_taken t at line_at end after ns there) (six_long t at line_at end after ns there) there.within l m put
           g
           k
-
-    pub filling_count : Filling t from count before list at (6 * i) i
-    filling_count = rw (← s.six) s
 
     pub filling_end : count ≤ i → list ≡ in_front (numbers_of (scan (lines count) (drop from t))) before
     unfolding lines scan
@@ -268,7 +193,7 @@ module _ (t : List ℕ) (from count : ℕ) (before : List ℕ) where
         let z : count - i ≡ 0 = omega arith in
         let e : taken [] (drop at t) ≡ taken s.left s.rest = rw z at s.still in
         let none : [] ≡ s.left = cc in
-        grown_whole n before list s.done s.grown
+        grown_whole (6 * i) before list s.done s.grown
         ∙ ap (λ (x : List ℕ). in_front x before) (sym (s.goes ∙ ap (λ (x : List ℕ). s.done ++ x) (sym none) ∙ append-nil s.done))
 
 -- ---- what a return says
@@ -359,46 +284,15 @@ module _ (room : ℕ) (t : List ℕ) where
     pub read_headed : (ns rest : List ℕ) → scan (head (format_of t)) t ≡ taken ns rest → read_text room t ≡ read_header (format_of t) room (taken ns rest)
     read_headed ns rest e = begun ∙ rw e
 
--- ---- the header's numbers, of which the code's room has one more
+-- ---- the head
 
-settings_take : (l : List ℕ) → settings_of (take 9 l) ≡ settings_of l
-unfolding settings_of
-settings_take l =
-    rw (
-      get_or-take 9 l 0 0 (omega arith),
-      get_or-take 9 l 1 0 (omega arith),
-      get_or-take 9 l 2 0 (omega arith),
-      get_or-take 9 l 3 0 (omega arith),
-      get_or-take 9 l 4 0 (omega arith),
-      get_or-take 9 l 5 0 (omega arith),
-      get_or-take 9 l 6 0 (omega arith),
-      get_or-take 9 l 7 0 (omega arith),
-    )
+module _ (room : ℕ) (t : List ℕ) (f : Format) (h : length t ≤ text_limit) (e : format_of t ≡ f) where
+  pub read_head : (end after : ℕ) (ns : List ℕ) → FormAt (head f) t 0 1 end after ns → numbers (head f) ≡ length ns
+      → read_text room t ≡ read_header f room (taken ns (drop end t))
+  read_head end after ns there n =
+      read_headed room t h ns (drop end t) (rw e (rw (n, take-length ns) at there.scanned)) ∙ rw e refl
 
-rest_same : (f : Format) (room : ℕ) (ns ms : List ℕ) (s : Scan) → settings_of ns ≡ settings_of ms → count_in ns ≡ count_in ms
-    → read_rest f room ns s ≡ read_rest f room ms s
-unfolding read_rest
-rest_same f room ns ms (faulty k) e c = refl
-rest_same f room ns ms (taken list extra) e c = rw (e, c)
-
-read_same : (f : Format) (room : ℕ) (ns ms rest : List ℕ) → settings_of ns ≡ settings_of ms → count_in ns ≡ count_in ms
-    → read_header f room (taken ns rest) ≡ read_header f room (taken ms rest)
-unfolding read_header
-read_same f room ns ms rest e c = rw (c, e, rest_same f room ns ms (scan (lines (count_in ms)) rest) e c)
-
-module _ (room : ℕ) (t : List ℕ) (k : ℕ) (c : Scanned) (h : length t ≤ text_limit) (format : FormatOf t k) (there : FoundAt t 0 1 k c) where
-  head_found : Finds (scan (head (format_by k)) t) t 1 c
-  head_found = rw (by_head k (λ z. omega (arith, format.0))) at there
-
-  pub read_head : c.good ≡ true → read_text room t ≡ read_header (format_by k) room (taken c.numbers (drop c.at t))
-  read_head b =
-      let n : c.n ≡ 9 = found_all (head (format_by k)) t t 1 c head_found b ∙ (by_sound k).nine in
-      let q : scan (head (format_by k)) t ≡ taken (take 9 c.numbers) (drop c.at t) = head_found.scanned ∙ pick_true _ _ _ b ∙ ap (λ (m : ℕ). taken (take m c.numbers) (drop c.at t)) n in
-      read_headed room t h (take 9 c.numbers) (drop c.at t) (rw format.1 q)
-      ∙ rw format.1
-      (read_same (format_by k) room (take 9 c.numbers) c.numbers (drop c.at t) (settings_take c.numbers) (get_or-take 9 c.numbers 8 0 (omega arith)))
-
-  pub read_headless : c.good ≡ false → read_text room t ≡ refuse_read 10 c.line 0
-  read_headless b =
-      let n : 1 + (c.line - 1) ≡ c.line = omega (arith, head_found.onward) in
-      read_unheaded room t h (c.line - 1) (rw format.1 (head_found.scanned ∙ pick_false _ _ _ b)) ∙ ap (λ (m : ℕ). refuse_read 10 m 0) n
+  pub read_headless : (c : Fault) → FaultAt (scan (head f) t) 1 c → read_text room t ≡ refuse_read 10 c.line 0
+  read_headless c there =
+      let n : 1 + (c.line - 1) ≡ c.line = omega (arith, there.onward) in
+      read_unheaded room t h (c.line - 1) (rw e there.scanned) ∙ ap (λ (m : ℕ). refuse_read 10 m 0) n

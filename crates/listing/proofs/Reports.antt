@@ -1,14 +1,15 @@
 -- The report: its forms as byte strings, its loops, and what each return says. Assumes nothing.
-use mathlib.Core.Path.{◌≡◌, refl, sym, ap, ◌∙◌, subst}
-use Prim.Native.Nat.{ℕ, zero, suc, ◌+◌, ◌-◌, ◌*◌, ◌/◌, ◌%◌, ◌^◌, ◌<◌, ◌≤◌}
-use native.Mathlib.Nat.{not-suc-le-zero}
+use mathlib.Core.Path.{◌≡◌, refl, sym, ap, ◌∙◌}
+use Prim.Native.Nat.{ℕ, zero, suc, max, ◌+◌, ◌*◌, ◌/◌, ◌%◌, ◌^◌, ◌<◌, ◌≤◌}
+use native.Mathlib.Nat.{pow-suc, pow-le-pow_right}
+use native.Mathlib.Decide.{dec_lt}
 use native.Mathlib.Numerals.{add-one}
 use native.Mathlib.Omega.{arith}
 use mathlib.Core.Bool.{Bool, true, false}
 use mathlib.Core.List.{List, [], ◌∷◌, ◌++◌, append-nil}
 use lib.ListN.{length, get_or, drop}
 use lib.Dec.{eqb, leb}
-use borrow.Author.Tests.{eq-eqb, ne_eqb, le-leb, lt-leb, eqb-true, leb-true}
+use borrow.Author.Tests.{eq-eqb, ne_eqb, le-leb, lt-leb, leb-true}
 use Rattle.lane.specs.Words.{pick}
 use Rattle.lane.proofs.Cases.{pick_true, pick_false}
 use Rattle.listing.specs.declared.Reporting.{Reporting}
@@ -16,33 +17,38 @@ use Rattle.listing.specs.Listing.{in_front}
 use Rattle.listing.specs.Forms.{Form, dec, render, render_item, takes, spell, bytes, literal, digits}
 use Rattle.listing.specs.PrivatePlaces.{item_of, form_of, numbers, widest, widest_item, Grown, Renders}
 use Rattle.listing.specs.Report.{width_in, width_of, outcome_form, outcome_lines, change_form, register_of, change_line, changes, Printed, report, reported, reporting, Reports}
-use Rattle.listing.proofs.Names.{every, every_at}
+use Rattle.listing.proofs.Digits.{length_digits}
 use Rattle.listing.proofs.Rooms.{grown_none, grown_more}
 use Rattle.listing.proofs.Trips.{render_append}
 
 -- ---- widths
 
-abbrev pub powers : List ℕ
-powers = 1 ∷ 10 ∷ 100 ∷ 1000 ∷ 10000 ∷ 100000 ∷ 1000000 ∷ 10000000 ∷ 100000000 ∷ 1000000000 ∷ []
+-- how many of at most j + 1 digits a number takes that has k + 1
+width_among : (j k n : ℕ) → k ≤ j → (0 < k → 10 ^ k ≤ n) → n < 10 ^ suc k → suc k ≡ width_in (suc j) n
+unfolding width_in pick
+width_among zero k n h low high =
+    let z : k ≡ 0 = omega arith in
+    ap suc z ∙ go (leb (10 ^ 0) n)
+  where
+    go : (b : Bool) → suc zero ≡ pick b (suc zero) (suc zero)
+    go true = refl
+    go false = refl
+width_among (suc j) k n h low high =
+    elim (dec_lt k (suc j)) [
+      | yes l ↦
+          let p : 10 ^ suc k ≤ 10 ^ suc j = pow-le-pow_right (omega arith) l in
+          width_among j k n (omega arith) low high ∙ sym (pick_false _ (suc (suc j)) (width_in (suc j) n) (lt-leb (10 ^ suc j) n (omega arith)))
+      | no l ↦
+          let e : k ≡ suc j = omega arith in
+          ap suc e ∙ sym (pick_true _ (suc (suc j)) (width_in (suc j) n) (le-leb (10 ^ suc j) n (rw e at (low (omega arith)))))
+    ]
 
-powers_good : every 10 (λ k. eqb (get_or powers k 0) (10 ^ k)) ≡ true
-unfolding every
-powers_good = refl
-
-pub power_at : (k : ℕ) → k < 10 → get_or powers k 0 ≡ 10 ^ k
-power_at k h = eqb-true _ _ (every_at 10 _ k h powers_good)
-
-pub width_here : (w n : ℕ) → 0 < w → 10 ^ (w - 1) ≤ n → width_in w n ≡ w
-unfolding width_in
-width_here zero n z h = absurd (not-suc-le-zero z)
-width_here (suc w) n z h = pick_true _ _ _ (le-leb (10 ^ w) n (subst (λ (k : ℕ). 10 ^ k ≤ n) {x = suc w - 1} {y = w} (omega arith) h))
-
-pub width_down : (w n : ℕ) → 0 < w → n < 10 ^ (w - 1) → width_in w n ≡ width_in (w - 1) n
-unfolding width_in
-width_down zero n z h = absurd (not-suc-le-zero z)
-width_down (suc w) n z h =
-    let e : suc w - 1 ≡ w = omega arith in
-    pick_false _ _ _ (lt-leb (10 ^ w) n (subst (λ (k : ℕ). n < 10 ^ k) e h)) ∙ ap (λ (k : ℕ). width_in k n) (sym e)
+pub width_is : (k m n : ℕ) → m ≡ max n 1 → 10 ^ k ≤ m → m < 10 * 10 ^ k → k < 10 → k + 1 ≡ width_of n
+width_is k m n e low high h =
+    add-one k
+    ∙ width_among 9 k n (omega arith)
+    (λ z. let p : 10 ^ 1 ≤ 10 ^ k = pow-le-pow_right (omega arith) z in omega arith)
+    (rw pow-suc (omega arith))
 
 -- ---- the forms that the code has
 
@@ -96,17 +102,17 @@ outcome_split answer steps place cursor =
     ∙ ap (λ (k : ℕ). render (form_of answer_bytes) vs ++ render (dec (width_of answer) ∷ form_of outcome_bytes) (drop k vs)) answer_numbers
     ∙ ap (λ (l : List ℕ). render (form_of answer_bytes) vs ++ l) (number_next (width_of answer) (form_of outcome_bytes) answer (steps ∷ place ∷ cursor ∷ []))
 
-pub outcome_grows : (answer steps place cursor w at r : ℕ) (before one two after : List ℕ) → w ≡ width_of answer → w ≤ 10
+pub outcome_grows : (answer steps place cursor w at end r : ℕ) (before one two after : List ℕ) → w ≡ width_of answer → w ≤ 10
     → Renders (render (form_of answer_bytes) (answer ∷ steps ∷ place ∷ cursor ∷ [])) 0 (widest (form_of answer_bytes)) before one at
-    → Grown at (at + w) one two (digits 10 w answer)
-    → Renders (render (form_of outcome_bytes) (steps ∷ place ∷ cursor ∷ [])) (at + w) (widest (form_of outcome_bytes)) two after r
+    → Grown at end one two (digits 10 w answer)
+    → Renders (render (form_of outcome_bytes) (steps ∷ place ∷ cursor ∷ [])) end (widest (form_of outcome_bytes)) two after r
     → Renders (outcome_lines answer steps place cursor) 0 54 before after r
-outcome_grows answer steps place cursor w at r before one two after e h a b c =
+outcome_grows answer steps place cursor w at end r before one two after e h a b c =
     record {
       grown =
           rw (outcome_split answer steps place cursor, ← e)
-          (grown_more 0 at before one _ a.grown r after _ (grown_more at (at + w) one two _ b r after _ c.grown));
-      within = omega (arith, a.within, c.within, answer_widest, outcome_widest);
+          (grown_more 0 at before one _ a.grown r after _ (grown_more at end one two _ b r after _ c.grown));
+      within = omega (arith, a.within, b.up_to, length_digits 10 w answer, c.within, answer_widest, outcome_widest);
     }
 
 -- ---- the lines of registers

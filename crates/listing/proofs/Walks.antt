@@ -1,22 +1,22 @@
 -- The loops that scan and that render a form: what is known each time their tests are reached. Assumes nothing.
 use mathlib.Core.Path.{◌≡◌, refl, sym, ap, ◌∙◌}
-use Prim.Native.Nat.{ℕ, zero, suc, ◌+◌, ◌-◌, ◌<◌, ◌≤◌}
-use native.Mathlib.Nat.{add-zero}
+use Prim.Native.Nat.{ℕ, ◌+◌, ◌-◌, ◌<◌, ◌≤◌}
+use native.Mathlib.Nat.{add-zero, zero-add}
+use native.Mathlib.Numerals.{add-one}
 use native.Mathlib.Omega.{arith}
-use mathlib.Core.Bool.{true, false}
 use mathlib.Core.List.{List, [], ◌∷◌, ◌++◌, append-nil, append_assoc}
 use lib.ListN.{length, get_or, take, drop, set, length-set, length-append, drop_of_length-le}
-use lib.Seq.{get_or-drop, drop-drop}
+use lib.Seq.{get_or-drop, drop-drop, take-suc-set}
 use lib.Dec.{eqb}
 use mir.Val.{bool_byte}
-use Rattle.lane.specs.Words.{pick}
-use Rattle.lane.proofs.Cases.{pick_true, pick_false, byte_small}
+use Rattle.lane.proofs.Cases.{byte_small}
+use Rattle.std.specs.Prelude.{None, Some}
 use Rattle.listing.specs.declared.Got.{Got}
-use Rattle.listing.specs.Forms.{Item, lit, dec, hex, name, render, render_item, Form, taken, joined, ends, scan, scan_item, takes}
-use Rattle.listing.specs.PrivatePlaces.{item_of, form_of, numbers, widest, widest_item, Grown, Gets, Finds, Renders}
+use Rattle.listing.specs.Forms.{Item, lit, dec, hex, name, render, render_item, Form, faulty, joined, ends, lines_in, scan, scan_item, takes}
+use Rattle.listing.specs.PrivatePlaces.{item_of, form_of, numbers, widest, widest_item, Grown, of_item, ItemAt, FormAt, FaultAt, Renders}
 use Rattle.listing.proofs.Items.{ends_byte, form_cons}
 use Rattle.listing.proofs.Joins.{joined_none, joined_joined, joined_end, joined_fault, scan_item_lem, scan_fault}
-use Rattle.listing.proofs.Rooms.{grown_none, front_some, grown_more}
+use Rattle.listing.proofs.Rooms.{grown_none, grown_more}
 use Rattle.listing.proofs.Digits.{length_digits}
 use Rattle.listing.proofs.Names.{length_names}
 use Rattle.listing.proofs.Trips.{item_taken, takes_one}
@@ -24,93 +24,95 @@ use Rattle.listing.proofs.Trips.{item_taken, takes_one}
 module _ (form t : List ℕ) (from first : ℕ) where
   pub record Scanning (out : List ℕ) (f at line n : ℕ) : Type 0 where
     pub goes : scan (form_of form) (drop from t) ≡ joined (take n out) (line - first) (scan (form_of (drop f form)) (drop at t))
-    pub ten : length out ≡ 10
+    pub nine : length out ≡ 9
     pub within : at ≤ length t
     pub in_form : f ≤ length form
+    pub lines : line + lines_in (form_of (drop f form)) ≡ first + lines_in (form_of form)
     pub onward : first ≤ line
     pub few : line ≤ first + f
-    pub room : n + numbers (form_of (drop f form)) ≤ numbers (form_of form)
+    pub room : n + numbers (form_of (drop f form)) ≡ numbers (form_of form)
 
-  pub scanning_start : (out : List ℕ) → length out ≡ 10 → from ≤ length t → Scanning out 0 from first 0
+  pub scanning_start : (out : List ℕ) → length out ≡ 9 → from ≤ length t → Scanning out 0 from first 0
   scanning_start out k h =
       let z : first - first ≡ 0 = omega arith in
       record {
         goes = rw z (sym (joined_none (scan (form_of form) (drop from t))));
-        ten = k;
+        nine = k;
         within = h;
         in_form = omega arith;
+        lines = refl;
         onward = omega arith;
         few = omega arith;
-        room = omega arith;
+        room = zero-add (numbers (form_of form));
       }
 
-  module _ (out : List ℕ) (f at line n : ℕ) (s : Scanning out f at line n) (h : numbers (form_of form) < 10) where
-    pub room_for : n < length out
-    room_for = omega (arith, s.room, s.ten)
-
-    module _ (g : Got) (l : f < length form) (e : Gets (scan_item (item_of (get_or form f 0)) (drop at t)) t g) where
-      pub scanning_stop : g.good ≡ false → length form ≤ 100
-          → Finds (scan (form_of form) (drop from t)) t first (record { good = false; at = at; line = line; n = n; numbers = out })
-      unfolding pick
-      scanning_stop b k =
+  module _ (out : List ℕ) (f at line n : ℕ) (s : Scanning out f at line n) where
+    module _ (l : f < length form) where
+      -- an item that is not there
+      pub scanning_stop : scan_item (item_of (get_or form f 0)) (drop at t) ≡ faulty 0
+          → FaultAt (scan (form_of form) (drop from t)) first (record { line = line })
+      scanning_stop e =
           record {
             scanned =
                 s.goes
-                ∙ rw (form_cons form f l, scan_fault _ (form_of (drop (f + 1) form)) (drop at t) 0 (e.scanned ∙ pick_false _ _ _ b))
+                ∙ rw (form_cons form f l, scan_fault _ (form_of (drop (f + 1) form)) (drop at t) 0 e)
                 (joined_fault (take n out) (line - first));
-            held = omega (arith, room_for);
-            within = s.within;
             onward = s.onward;
-            few = omega (arith, s.few);
           }
 
-      some : g.good ≡ true → scan_item (item_of (get_or form f 0)) (drop at t) ≡ taken (take g.count (g.value ∷ [])) (drop g.at t)
-      some b = e.scanned ∙ pick_true _ _ _ b
-
-      counted : (k v : ℕ) → k ≤ 1 → length (take k (v ∷ [])) ≡ k
-      counted zero v i = refl
-      counted (suc zero) v i = refl
-      counted (suc (suc k)) v i = absurd (no i)
-        where
-          no : suc (suc k) ≤ 1 → ⊥
-          no z = omega arith
-
-      taken_count : g.good ≡ true → g.count ≡ takes (item_of (get_or form f 0))
-      taken_count b =
-          sym (counted g.count g.value e.one)
-          ∙ (item_taken (item_of (get_or form f 0)) (drop at t) _ (drop g.at t) (some b)).count
-
-      room_cons : numbers (form_of (drop f form)) ≡ takes (item_of (get_or form f 0)) + numbers (form_of (drop (f + 1) form))
+      numbers_cons : numbers (form_of (drop f form)) ≡ takes (item_of (get_or form f 0)) + numbers (form_of (drop (f + 1) form))
       unfolding numbers
-      room_cons = rw (form_cons form f l)
+      numbers_cons = rw (form_cons form f l)
 
-      pub scanning_more : g.good ≡ true
-          → Scanning (set out n g.value) (f + 1) g.at (line + bool_byte (eqb (get_or form f 0) 10)) (n + g.count)
-      scanning_more b =
-          let k : line - first + ends (item_of (get_or form f 0)) ≡ line + bool_byte (eqb (get_or form f 0) 10) - first = omega (arith, ends_byte (get_or form f 0), s.onward) in
-          record {
-            goes =
-                s.goes
-                ∙ rw (form_cons form f l, scan_item_lem _ (form_of (drop (f + 1) form)) (drop at t) _ _ (some b), ← k, front_some out n g.value g.count room_for e.one)
-                (joined_joined (take n out) _ (line - first) _ _);
-            ten = length-set out n g.value ∙ s.ten;
-            within = e.within;
-            in_form = omega arith;
-            onward = omega (arith, s.onward);
-            few = omega (arith, s.few, byte_small (eqb (get_or form f 0) 10));
-            room = omega (arith, s.room, room_cons, taken_count b);
-          }
+      lines_cons : lines_in (form_of (drop f form)) ≡ bool_byte (eqb (get_or form f 0) 10) + lines_in (form_of (drop (f + 1) form))
+      unfolding lines_in
+      lines_cons = rw (form_cons form f l, ends_byte (get_or form f 0)) refl
 
-    pub scanning_end : length form ≤ f → length form ≤ 100
-        → Finds (scan (form_of form) (drop from t)) t first (record { good = true; at = at; line = line; n = n; numbers = out })
-    unfolding pick form_of scan
-    scanning_end l k =
+      module _ (g : Got) (e : ItemAt (scan_item (item_of (get_or form f 0)) (drop at t)) t g) where
+        one_more : length (of_item g.number) ≡ takes (item_of (get_or form f 0))
+        one_more = (item_taken (item_of (get_or form f 0)) (drop at t) _ (drop g.at t) e.scanned).count
+
+        -- there is room for an item's number
+        pub room_for : (v : ℕ) → g.number ≡ Some v → numbers (form_of form) ≤ 9 → n < length out
+        room_for v q h =
+            let k : 1 ≡ takes (item_of (get_or form f 0)) = rw q at one_more in
+            omega (arith, s.room, s.nine, numbers_cons)
+
+        scanning_next : (after : List ℕ) (m : ℕ) → take m after ≡ take n out ++ of_item g.number → length after ≡ length out → m ≡ n + length (of_item g.number)
+            → Scanning after (f + 1) g.at (line + bool_byte (eqb (get_or form f 0) 10)) m
+        scanning_next after m q r z =
+            let k : line - first + ends (item_of (get_or form f 0)) ≡ line + bool_byte (eqb (get_or form f 0) 10) - first = omega (arith, ends_byte (get_or form f 0), s.onward) in
+            record {
+              goes =
+                  s.goes
+                  ∙ rw (form_cons form f l, scan_item_lem _ (form_of (drop (f + 1) form)) (drop at t) _ _ e.scanned, ← k, q)
+                  (joined_joined (take n out) _ (line - first) _ _);
+              nine = r ∙ s.nine;
+              within = e.within;
+              in_form = omega arith;
+              lines = omega (arith, s.lines, lines_cons);
+              onward = omega (arith, s.onward);
+              few = omega (arith, s.few, byte_small (eqb (get_or form f 0) 10));
+              room = omega (arith, s.room, numbers_cons, one_more);
+            }
+
+        pub scanning_some : (v : ℕ) → g.number ≡ Some v → numbers (form_of form) ≤ 9
+            → Scanning (set out n v) (f + 1) g.at (line + bool_byte (eqb (get_or form f 0) 10)) (n + 1)
+        scanning_some v q h =
+            scanning_next (set out n v) (n + 1) (rw (q, add-one n) (take-suc-set out n v (room_for v q h))) (length-set out n v) (rw q refl)
+
+        pub scanning_none : g.number ≡ None → Scanning out (f + 1) g.at (line + bool_byte (eqb (get_or form f 0) 10)) n
+        scanning_none q = scanning_next out n (rw q (sym (append-nil (take n out)))) refl (rw q (sym (add-zero n)))
+
+    pub scanning_end : length form ≤ f → FormAt (form_of form) t from first at line out
+    unfolding form_of scan numbers lines_in
+    scanning_end l =
+        let z = drop_of_length-le form {i = f} l in
+        let k : n ≡ numbers (form_of form) = sym (add-zero n) ∙ rw z at s.room in
         record {
-          scanned = s.goes ∙ rw (drop_of_length-le form {i = f} l) (joined_end (take n out) (line - first) (drop at t));
-          held = omega (arith, room_for);
+          scanned = rw (← k) (s.goes ∙ rw z (joined_end (take n out) (line - first) (drop at t)));
           within = s.within;
-          onward = s.onward;
-          few = omega (arith, s.few, s.in_form);
+          onward = sym (add-zero line) ∙ rw z at s.lines;
         }
 
 -- ---- rendering
@@ -142,10 +144,6 @@ module _ (i : Item) (at v size : ℕ) where
   pub room_hex : {w : ℕ} → i ≡ hex w → at + length (render_item i v) ≤ size → at + w ≤ size
   unfolding render_item
   room_hex {w} e h = omega (arith, length_digits 16 w v, ap (λ (x : Item). length (render_item x v)) e)
-
-  pub room_lit : {c : ℕ} → i ≡ lit c → at + length (render_item i v) ≤ size → at < size
-  unfolding render_item
-  room_lit {c} e h = omega (arith, ap (λ (x : Item). length (render_item x v)) e)
 
 module _ (form values : List ℕ) (from place : ℕ) (before : List ℕ) where
   pub record Rendering (out : List ℕ) (f n at : ℕ) : Type 0 where

@@ -4,15 +4,17 @@ use Prim.Native.Nat.{ℕ, zero, suc, ◌+◌, ◌-◌, ◌*◌, ◌<◌, ◌≤�
 use native.Mathlib.Nat.{add-zero, zero-add, sub-zero}
 use native.Mathlib.Omega.{arith}
 use mathlib.Core.List.{List, [], ◌∷◌, ◌++◌, append-nil, append_assoc}
-use lib.ListN.{length, get_or, drop, length-append}
-use lib.Seq.{drop-drop, get_or-drop}
+use lib.ListN.{length, get_or, take, drop, length-append}
+use lib.Seq.{drop-drop, get_or-drop, get_or-take}
 use borrow.Author.Tests.{eq-eqb, ne_eqb, le-leb, lt-leb}
+use Rattle.std.specs.Simd.{first_chunks}
 use Rattle.lane.specs.declared.Settings.{Settings}
 use Rattle.lane.proofs.Cases.{pick_true, pick_false}
-use Rattle.runner.specs.declared.Found.{Found}
+use Rattle.runner.specs.Checks.{Found}
 use Rattle.lane.proofs.Accepted.{fields_fit}
 use Rattle.runner.specs.Checks.{insn_at, count_of, list_limit, list_answer}
 use Rattle.runner.proofs.Accepted.{listed, given_short}
+use Rattle.runner.proofs.Scan.{chunk_at}
 use Rattle.listing.specs.Forms.{Form, lit, dec, hex, name, text, LF, digits, render, render_item, takes, name_of, spell, bytes, literal}
 use Rattle.listing.specs.PrivatePlaces.{numbers, widest, widest_item, Grown}
 use Rattle.listing.specs.PrivateLines.{line_length, Named}
@@ -20,6 +22,7 @@ use Rattle.listing.specs.Listing.{Format, written, header_with, head, line, line
 use Rattle.listing.proofs.Digits.{length_digits}
 use Rattle.listing.proofs.FormatTable.{Sound, line_numbers}
 use Rattle.listing.proofs.LineRows.{length_line}
+use Rattle.listing.proofs.LineWrites.{line_front}
 use Rattle.listing.proofs.Rooms.{grown_none, grown_more, grown_whole}
 use Rattle.listing.proofs.Trips.{render_append, widest_append}
 use Rattle.listing.proofs.Walks.{render_widest}
@@ -85,6 +88,19 @@ line_length_lem ns =
     ∙ omega (arith, opening_length ns, length-append (name_of (get_or ns 0 0)) (render fields (drop 1 ns)), fields_length (drop 1 ns))
 
 -- ---- instruction lines
+
+-- the words of an instruction among a list's chunks
+module _ (chunks : List (List ℕ)) (list : List ℕ) (k : ℕ) (e : chunks ≡ first_chunks 6 (count_of list) list) (l : k < count_of list) where
+  chunk : get_or chunks k [] ≡ take 6 (drop (6 * k) list)
+  chunk = ap (λ (x : List (List ℕ)). get_or x k []) e ∙ chunk_at 6 (count_of list) k list l
+
+  pub op_in : get_or (get_or chunks k []) 0 0 ≡ get_or list (6 * k) 0
+  op_in =
+      ap (λ (x : List ℕ). get_or x 0 0) chunk ∙ get_or-take 6 (drop (6 * k) list) 0 0 (omega arith) ∙ get_or-drop (6 * k) list 0 0
+      ∙ ap (λ (j : ℕ). get_or list j 0) (add-zero (6 * k))
+
+  pub line_in : render line (get_or chunks k []) ≡ render line (drop (6 * k) list)
+  line_in = ap (λ (x : List ℕ). render line x) chunk ∙ line_front (drop (6 * k) list)
 
 lines_render : (n : ℕ) (ns : List ℕ) → render (lines (suc n)) ns ≡ render line ns ++ render (lines n) (drop 6 ns)
 unfolding lines

@@ -55,12 +55,12 @@ insn_before t op end =
       md = two_of t (end - 3);
     }
 
--- What the line of an instruction whose words begin at k has after imm.
-unfoldable pub fields_of : List ℕ → ℕ → List ℕ
-fields_of list k =
-    (bytes " vb=" ++ digits 10 2 (get_or list (k + 2) 0))
-    ++ ((bytes " vc=" ++ digits 10 2 (get_or list (k + 3) 0))
-    ++ ((bytes " vd=" ++ digits 10 2 (get_or list (k + 4) 0)) ++ (bytes " mod=" ++ (digits 10 2 (get_or list (k + 5) 0) ++ bytes "\n"))))
+-- What the line of an instruction has after imm.
+unfoldable pub fields_of : List ℕ → List ℕ
+fields_of ns =
+    (bytes " vb=" ++ digits 10 2 (get_or ns 2 0))
+    ++ ((bytes " vc=" ++ digits 10 2 (get_or ns 3 0))
+    ++ ((bytes " vd=" ++ digits 10 2 (get_or ns 4 0)) ++ ((bytes " mod=" ++ digits 10 2 (get_or ns 5 0)) ++ bytes "\n")))
 
 -- A line stands at a position, with an instruction and the position after it.
 pub record LineAt (t : List ℕ) (at end : ℕ) (i : Insn) : Type 0 where

@@ -1,16 +1,15 @@
 -- Pass over this page with document 01 in the other hand: it is the vocabulary of private functions, and no promise rests on it. It has
 -- how the code says what a scan finds and what a render writes: forms as byte strings, positions in a text, lists that grow in lent room.
-use Rattle.std.specs.Prelude.{ℕ, ◌+◌, ◌-◌, ◌*◌, ◌≤◌, ◌≡◌, true, List, [], ◌∷◌, ◌++◌, map, length, take, drop, ltb, leb, eqb}
+use Rattle.std.specs.Prelude.{ℕ, ◌+◌, ◌-◌, ◌≤◌, ◌≡◌, ◌==◌, nat_le, nat_lt, List, [], ◌∷◌, ◌++◌, map, length, take, drop, Option, None, Some, Result, MatchOption, MatchResult}
 use Rattle.lane.specs.Words.{pick}
-use Rattle.runner.specs.Checks.{found, scanned}
 use Rattle.listing.specs.declared.Got.{Got}
 use Rattle.listing.specs.declared.Scanned.{Scanned}
-use Rattle.listing.specs.declared.Rest.{Rest}
-use Rattle.listing.specs.Forms.{Item, lit, dec, hex, name, Form, Scan, taken, faulty, takes}
+use Rattle.listing.specs.declared.Fault.{Fault}
+use Rattle.listing.specs.Forms.{Item, lit, dec, hex, name, Form, Scan, taken, faulty, takes, lines_in, scan}
 
 -- A byte of a form: below 10 that many decimal digits, 14 an op name, 16 to 24 up to eight hexadecimal digits, any other itself.
 unfoldable pub item_of : ℕ → Item
-item_of x = pick (ltb x 10) (dec x) (pick (eqb x 14) name (pick (ltb x 16) (lit x) (pick (leb x 24) (hex (x - 16)) (lit x))))
+item_of x = pick (nat_lt x 10) (dec x) (pick (x == 14) name (pick (nat_lt x 16) (lit x) (pick (nat_le x 24) (hex (x - 16)) (lit x))))
 
 unfoldable pub form_of : List ℕ → Form
 form_of bs = map item_of bs
@@ -32,33 +31,38 @@ numbers [] = 0
 numbers (i ∷ f) = takes i + numbers f
 
 -- The first n of `after` are the first p of `before`, and then xs; what is past them is as before.
-pub record Grown (p n : ℕ) (before after xs : List ℕ) : Type 0 where
+pub record Grown {A : Type 0} (p n : ℕ) (before after xs : List A) : Type 0 where
   pub front : take n after ≡ take p before ++ xs
   pub back : drop n after ≡ drop n before
   pub up_to : n ≡ p + length xs
 
--- An item was scanned in a text, up to a position.
-pub record Gets (s : Scan) (t : List ℕ) (g : Got) : Type 0 where
-  pub scanned : s ≡ pick g.good (taken (take g.count (g.value ∷ [])) (drop g.at t)) (faulty 0)
+-- The number of an item as a list: of one, or of none.
+abbrev pub of_item : Option ℕ → List ℕ
+of_item None = []
+of_item (Some v) = v ∷ []
+
+-- What is found where an item is scanned in a text.
+pub record ItemAt (s : Scan) (t : List ℕ) (g : Got) : Type 0 where
+  pub scanned : s ≡ taken (of_item g.number) (drop g.at t)
   pub within : g.at ≤ length t
-  pub one : g.count ≤ 1
 
--- A form of at most 100 lines was scanned from line `first` on, up to a position and a line.
-pub record Finds (s : Scan) (t : List ℕ) (first : ℕ) (r : Scanned) : Type 0 where
-  pub scanned : s ≡ pick r.good (taken (take r.n r.numbers) (drop r.at t)) (faulty (r.line - first))
-  pub held : r.n ≤ length r.numbers
-  pub within : r.at ≤ length t
-  pub onward : first ≤ r.line
-  pub few : r.line ≤ first + 100
+abbrev pub Gets : Scan → List ℕ → Option Got → Type 0
+Gets s t r = MatchOption r (s ≡ faulty 0) (ItemAt s t)
 
--- So many instruction lines were scanned from line `first` on, up to a position and a line, and of the instructions the first refused was found.
-pub record Checked (s : Scan) (t : List ℕ) (first count : ℕ) (r : Rest) : Type 0 where
-  pub ns : List ℕ
-  pub taken_or : s ≡ pick r.good (taken ns (drop r.at t)) (faulty (r.line - first))
-  pub refused : found r.answer r.place ≡ scanned ns
-  pub sixes : r.good ≡ true → length ns ≡ 6 * count
-  pub within : r.at ≤ length t
-  pub onward : first ≤ r.line
+-- What is found where a form is scanned in a text, from a position and the line `first` on.
+pub record FormAt (f : Form) (t : List ℕ) (at first end line : ℕ) (ns : List ℕ) : Type 0 where
+  pub scanned : scan f (drop at t) ≡ taken (take (numbers f) ns) (drop end t)
+  pub within : end ≤ length t
+  pub onward : line ≡ first + lines_in f
+
+-- A scan is faulty at a line.
+pub record FaultAt (s : Scan) (first : ℕ) (e : Fault) : Type 0 where
+  pub scanned : s ≡ faulty (e.line - first)
+  pub onward : first ≤ e.line
+
+abbrev pub Finds : Form → List ℕ → ℕ → ℕ → Result Scanned Fault → Type 0
+Finds f t at first r =
+    MatchResult r (λ c. FormAt f t at first c.at c.line c.numbers) (FaultAt (scan f (drop at t)) first)
 
 -- The numbers of a scan, none where it is faulty; and that it is not.
 unfoldable pub numbers_of : Scan → List ℕ

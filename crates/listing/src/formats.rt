@@ -1,59 +1,58 @@
-// The table of formats, by number: what differs from one to the other but for their heads, which are forms.
-ghost use Rattle.std.specs.Prelude.{◌≡◌, ◌≤◌};
-ghost use Rattle.listing.specs.Forms as Forms;
+// The table of formats: what differs from one to the other.
+ghost use Rattle.std.specs.Prelude.{◌≡◌, ◌≤◌, length};
 ghost use Rattle.listing.specs.Listing as Listing;
+ghost use Rattle.listing.specs.PrivatePlaces as Places;
 ghost use Rattle.listing.specs.PrivateReader as Held;
 
-use crate::forms::byte_at;
+use crate::{HEAD_2, OLD_HEAD};
 use runner::checks::LIST_LIMIT;
 
-// The numbers of the formats: an old listing has the first, and a line format=2 the second, which is the one that is written.
-pub(crate) const OLD: u8 = 1;
+// An old listing's format, which has no mark, and the one that is written, format=2.
+#[derive(Clone, Copy, PartialEq, Eq)]
+pub(crate) enum Format {
+    Old,
+    Two,
+}
 
-pub(crate) const TWO: u8 = 2;
+impl Format {
+    // The format of a text.
+    pub(crate) fn of(text: &[u8]) -> Format
+        ensures { Listing.format_of text.now ≡ Held.row result }
+    {
+        if text.starts_with(b"format=2\n") {
+            return Format::Two;
+        }
+        Format::Old
+    }
 
-// The first line that marks format 2.
-const MARK_2: [u8; 9] = *b"format=2\n";
-
-// Whether a text begins with a mark, of which no byte is 0.
-fn begins(text: &[u8], mark: &[u8]) -> bool
-    requires { Held.Letters mark.now }
-    ensures { result ≡ Forms.begins mark.now text.now }
-{
-    for i in 0..mark.len() {
-        if byte_at(text, i) != mark[i] {
-            return false;
+    // The most instructions of a listing.
+    pub(crate) fn limit(self) -> u32
+        ensures { result ≡ (Held.row self).limit }
+    {
+        match self {
+            Format::Two => LIST_LIMIT as u32,
+            Format::Old => 1024,
         }
     }
-    true
-}
 
-// The format of a text.
-pub(crate) fn format_of(text: &[u8]) -> u8
-    ensures { Held.FormatOf text.now result }
-{
-    if begins(text, &MARK_2) {
-        return TWO;
+    // The line at which its instruction lines begin.
+    pub(crate) fn first_line(self) -> u32
+        ensures { result ≡ Listing.first_line (Held.row self) }
+    {
+        match self {
+            Format::Two => 11,
+            Format::Old => 10,
+        }
     }
-    OLD
-}
 
-// The most instructions of a listing in a format.
-pub(crate) fn limit_of(format: u8) -> u32
-    ensures { result ≡ (Held.format_by format).limit }
-{
-    if format == TWO {
-        return LIST_LIMIT as u32;
+    // The form of what stands before them.
+    pub(crate) fn head(self) -> &'static [u8]
+        ensures form { Places.form_of result.now ≡ Listing.head (Held.row self) }
+        ensures short { length result.now ≤ 100 }
+    {
+        match self {
+            Format::Two => &HEAD_2,
+            Format::Old => &OLD_HEAD,
+        }
     }
-    1024
-}
-
-// The line at which its instruction lines begin.
-pub(crate) fn first_line(format: u8) -> u32
-    ensures { result ≡ Listing.first_line (Held.format_by format) }
-{
-    if format == TWO {
-        return 11;
-    }
-    10
 }

@@ -2,52 +2,63 @@
 //
 // A form is a byte string: a byte below 10 stands for that many decimal digits, 14 for an op name, 16 to 24 for up to eight hexadecimal
 // digits, any other for itself.
-ghost use Rattle.std.specs.Prelude.{◌≡◌, [], ◌∷◌, ◌++◌, ◌+◌, ◌-◌, ◌^◌, ◌<◌, ◌≤◌, length, get_or, take, drop};
+//
+// Room and the place in it go as two parameters: the place moves with each part, so that a struct of both would be taken apart for each.
+ghost use Rattle.std.specs.Prelude.{◌≡◌, ◌+◌, ◌^◌, ◌<◌, ◌≤◌, length, get_or, drop};
+ghost use Rattle.std.specs.Option.{unwrap_or};
 ghost use Rattle.listing.specs.Forms as Forms;
 ghost use Rattle.listing.specs.PrivatePlaces as Places;
 
-use crate::{Got, Scanned};
+use crate::{Fault, Got, Scanned};
+use lane::op;
 
-// The op names, by op from 0, which has none; each ends with its first space.
-const NAMES: [u8; 119] =
-    *b"       LOAD   LOADI  LUT    SWAP   CONFIG IADD   ABS    AND    OR     XOR    NOT    LZ     EXEXP  EXMAN  NOP    STORE  ";
-
-const NAME_LENGTHS: [usize; 17] = [0, 5, 6, 4, 5, 7, 5, 4, 4, 3, 4, 4, 3, 6, 6, 4, 6];
-
-// A byte of a text, 0 past its end.
-pub(crate) fn byte_at(text: &[u8], at: usize) -> u8
-    ensures { result ≡ get_or text.now at 0 }
+// The op names, each with the space that ends it; 0 and numbers past 16 have none.
+#[tactic(auto, unfolding(crate::specs::Forms::name_of, crate::specs::Forms::names, crate::specs::Forms::bytes, crate::specs::Forms::spell))]
+fn name_of(op: u32) -> &'static [u8]
+    ensures { result.now ≡ Forms.name_of op }
 {
-    if at < text.len() { text[at] } else { 0 }
+    match op {
+        op::LOAD => b"LOAD ",
+        op::LOADI => b"LOADI ",
+        op::LUT => b"LUT ",
+        op::SWAP => b"SWAP ",
+        op::CONFIG => b"CONFIG ",
+        op::IADD => b"IADD ",
+        op::ABS => b"ABS ",
+        op::AND => b"AND ",
+        op::OR => b"OR ",
+        op::XOR => b"XOR ",
+        op::NOT => b"NOT ",
+        op::LZ => b"LZ ",
+        op::EXEXP => b"EXEXP ",
+        op::EXMAN => b"EXMAN ",
+        op::NOP => b"NOP ",
+        op::STORE => b"STORE ",
+        _ => b"",
+    }
 }
 
 // A word of a list, 0 past its end.
 pub(crate) fn word_at(list: &[u32], at: usize) -> u32
     ensures { result ≡ get_or list.now at 0 }
 {
-    if at < list.len() { list[at] } else { 0 }
+    list.get(at).copied().unwrap_or(0)
 }
 
-// The digit of a byte, 36 where it is none.
-fn digit(c: u8) -> u32
-    ensures { result ≡ Forms.digit c }
+// The digit of a byte. By hand, since `to_digit` takes lower-case letters too.
+#[tactic(auto, unfolding(crate::specs::Forms::digit, lane::specs::Words::pick))]
+fn digit(c: u8) -> Option<u32>
+    ensures { unwrap_or result 36 ≡ Forms.digit c }
 {
-    if c < 48 {
-        return 36;
+    match c {
+        b'0'..=b'9' => Some(c as u32 - 48),
+        b'A'..=b'Z' => Some(c as u32 - 55),
+        _ => None,
     }
-    if c <= 57 {
-        return c as u32 - 48;
-    }
-    if c < 65 {
-        return 36;
-    }
-    if c <= 90 {
-        return c as u32 - 55;
-    }
-    36
 }
 
-// The byte of a digit.
+// The byte of a digit. By hand, since `from_digit` gives lower-case letters.
+#[tactic(auto, unfolding(crate::specs::Forms::glyph, lane::specs::Words::pick))]
 fn glyph(d: u32) -> u8
     requires { d < 36 }
     ensures { result ≡ Forms.glyph d }
@@ -59,242 +70,136 @@ fn glyph(d: u32) -> u8
     }
 }
 
-// `w` digits of a base, at a position.
-fn number(text: &[u8], at: usize, base: u32, w: usize) -> Got
-    requires { (at ≤ length text.now) × (base ≤ 36) × (w ≤ 10) × (base ^ w ≤ 2 ^ 32) }
-    ensures { Places.Gets (Forms.scan_number base w (drop at text.now)) text.now result }
+// `w` digits of a base, at a text's front.
+fn number(text: &[u8], base: u32, w: usize) -> Option<Got>
+    requires { (base ≤ 36) × (w ≤ 10) × (base ^ w ≤ 2 ^ 32) }
+    ensures { Places.Gets (Forms.scan_number base w text.now) text.now result }
 {
     let mut value: u32 = 0;
-    for i in 0..w {
-        let d = digit(byte_at(text, at + i));
+    for &c in text.get(..w)? {
+        let d = digit(c)?;
         if base <= d {
-            return Got {
-                good: false,
-                at,
-                count: 0,
-                value: 0,
-            };
+            return None;
         }
         value = value * base + d;
     }
-    Got {
-        good: true,
-        at: at + w,
-        count: 1,
-        value,
-    }
+    Some(Got {
+        at: w,
+        number: Some(value),
+    })
 }
 
-// Whether the name of `op` stands at a position.
-fn named(text: &[u8], at: usize, op: usize) -> bool
-    requires { (at ≤ length text.now) × (op < 17) }
-    ensures { result ≡ Forms.begins (Forms.name_of op) (drop at text.now) }
+// An op name, at a text's front.
+fn op_name(text: &[u8]) -> Option<Got>
+    ensures { Places.Gets (Forms.scan_name text.now) text.now result }
 {
-    let n = NAME_LENGTHS[op];
-    for i in 0..n {
-        if byte_at(text, at + i) != NAMES[7 * op + i] {
-            return false;
+    for op in 1..17 {
+        let name = name_of(op);
+        if text.starts_with(name) {
+            return Some(Got {
+                at: name.len(),
+                number: Some(op),
+            });
         }
     }
-    true
+    None
 }
 
-// The op whose name stands at a position, 0 for none.
-fn op_at(text: &[u8], at: usize) -> usize
-    requires { at ≤ length text.now }
-    ensures { (result ≡ Forms.op_of 16 (drop at text.now)) × (result ≤ 16) }
+// A byte that must stand at a text's front.
+fn byte(text: &[u8], x: u8) -> Option<Got>
+    ensures { Places.Gets (Forms.scan_byte x text.now) text.now result }
 {
-    let mut op: usize = 16;
-    while op > 0 {
-        if named(text, at, op) {
-            return op;
-        }
-        op -= 1;
+    if *text.get(0)? == x {
+        return Some(Got {
+            at: 1,
+            number: None,
+        });
     }
-    0
+    None
 }
 
-// An op name, at a position.
-fn op_name(text: &[u8], at: usize) -> Got
-    requires { at ≤ length text.now }
-    ensures { Places.Gets (Forms.scan_name (drop at text.now)) text.now result }
+// An item of a form, at a text's front.
+#[tactic(auto, unfolding(crate::specs::Forms::scan_item, crate::specs::PrivatePlaces::item_of, lane::specs::Words::pick))]
+pub(crate) fn item(text: &[u8], x: u8) -> Option<Got>
+    ensures { Places.Gets (Forms.scan_item (Places.item_of x) text.now) text.now result }
 {
-    let op = op_at(text, at);
-    if op == 0 {
-        return Got {
-            good: false,
-            at,
-            count: 0,
-            value: 0,
-        };
-    }
-    Got {
-        good: true,
-        at: at + NAME_LENGTHS[op],
-        count: 1,
-        value: op as u32,
+    match x {
+        0..=9 => number(text, 10, x as usize),
+        14 => op_name(text),
+        16..=24 => number(text, 16, x as usize - 16),
+        _ => byte(text, x),
     }
 }
 
-// A byte that must stand at a position.
-fn byte(text: &[u8], at: usize, x: u8) -> Got
-    requires { (at ≤ length text.now) × (0 < x) }
-    ensures { Places.Gets (Forms.scan_byte x (drop at text.now)) text.now result }
+// A form, from a position and the line `first` on. A byte 10 of it ends a line.
+pub(crate) fn scan(text: &[u8], from: usize, first: u32, form: &[u8]) -> Result<Scanned, Fault>
+    requires { (from ≤ length text.now) × (first < 2 ^ 31) × (Places.numbers (Places.form_of form.now) ≤ 9) × (length form.now ≤ 100) }
+    ensures { Places.Finds (Places.form_of form.now) text.now from first result }
 {
-    if byte_at(text, at) != x {
-        return Got {
-            good: false,
-            at,
-            count: 0,
-            value: 0,
-        };
-    }
-    Got {
-        good: true,
-        at: at + 1,
-        count: 0,
-        value: 0,
-    }
-}
-
-// An item of a form, at a position.
-pub(crate) fn item(text: &[u8], at: usize, x: u8) -> Got
-    requires { at ≤ length text.now }
-    ensures { Places.Gets (Forms.scan_item (Places.item_of x) (drop at text.now)) text.now result }
-{
-    if x < 10 {
-        return number(text, at, 10, x as usize);
-    }
-    if x == 14 {
-        return op_name(text, at);
-    }
-    if x < 16 {
-        return byte(text, at, x);
-    }
-    if x <= 24 {
-        return number(text, at, 16, x as usize - 16);
-    }
-    byte(text, at, x)
-}
-
-// A form, from a position and the line `first` on. A byte 10 of it ends a line. `numbers` has a place to spare, since a store is made for an
-// item without a number too.
-pub(crate) fn scan(text: &[u8], from: usize, first: u32, form: &[u8]) -> Scanned
-    requires { (from ≤ length text.now) × (Places.numbers (Places.form_of form.now) < 10) × (length form.now ≤ 100) }
-    ensures { Places.Finds (Forms.scan (Places.form_of form.now) (drop from text.now)) text.now first result }
-{
-    let mut numbers: [u32; 10] = [0; 10];
-    let mut at = from;
-    let mut line = first as usize;
+    let mut numbers: [u32; 9] = [0; 9];
     let mut n: usize = 0;
-    for f in 0..form.len() {
-        let x = form[f];
-        let got = item(text, at, x);
-        if !got.good {
-            return Scanned {
-                good: false,
-                at,
-                line,
-                n,
-                numbers,
-            };
+    let mut at = from;
+    let mut line = first;
+    for &x in form {
+        let Some(got) = item(&text[at..], x) else {
+            return Err(Fault { line });
+        };
+        if let Some(value) = got.number {
+            numbers[n] = value;
+            n += 1;
         }
-        numbers[n] = got.value;
-        n += got.count;
-        at = got.at;
-        line += (x == 10) as usize;
+        at += got.at;
+        line += (x == 10) as u32;
     }
-    Scanned {
-        good: true,
-        at,
-        line,
-        n,
-        numbers,
-    }
+    Ok(Scanned { at, line, numbers })
 }
 
 // How many numbers an item takes.
+#[tactic(auto, unfolding(crate::specs::Forms::takes, crate::specs::PrivatePlaces::item_of, lane::specs::Words::pick))]
 fn count_of(x: u8) -> usize
     ensures { result ≡ Forms.takes (Places.item_of x) }
 {
-    if x < 10 {
-        return 1;
+    match x {
+        0..=9 | 14 | 16..=24 => 1,
+        _ => 0,
     }
-    if x == 14 {
-        return 1;
-    }
-    if x < 16 {
-        return 0;
-    }
-    if x <= 24 {
-        return 1;
-    }
-    0
 }
 
-// The `w` lowest digits of `n`, the highest first.
-pub(crate) fn put_number(out: &mut [u8], at: usize, base: u32, w: usize, n: u32)
+// Some bytes or words, into lent room from a position on; where they end.
+pub(crate) fn put<T: Copy>(out: &mut [T], at: usize, xs: &[T]) -> usize
+    requires { at + length xs.now ≤ length out.old }
+    ensures { Places.Grown at result out.old out.new xs.now }
+{
+    let end = at + xs.len();
+    out[at..end].copy_from_slice(xs);
+    end
+}
+
+// The `w` lowest digits of `n`, the highest first. By hand, since `{:0w$}` prints every digit of a number that has more.
+pub(crate) fn put_number(out: &mut [u8], at: usize, base: u32, w: usize, n: u32) -> usize
     requires { (at + w ≤ length out.old) × (0 < base) × (base ≤ 36) }
-    ensures { Places.Grown at (at + w) out.old out.new (Forms.digits base w n) }
+    ensures { Places.Grown at result out.old out.new (Forms.digits base w n) }
 {
-    if 0 < w {
-        put_number(out, at, base, w - 1, n / base);
-        out[at + (w - 1)] = glyph(n % base);
+    if w == 0 {
+        return at;
     }
-}
-
-// The name of `op`.
-fn put_name(out: &mut [u8], at: usize, op: usize) -> usize
-    requires { (at + length (Forms.name_of op) ≤ length out.old) × (op < 17) }
-    ensures { Places.Grown at result out.old out.new (Forms.name_of op) }
-{
-    let n = NAME_LENGTHS[op];
-    for i in 0..n {
-        out[at + i] = NAMES[7 * op + i];
-    }
-    at + n
-}
-
-// The name of any number, of which those past 16 have none.
-fn put_op(out: &mut [u8], at: usize, op: u32) -> usize
-    requires { at + length (Forms.name_of op) ≤ length out.old }
-    ensures { Places.Grown at result out.old out.new (Forms.name_of op) }
-{
-    if op < 17 {
-        return put_name(out, at, op as usize);
-    }
-    at
-}
-
-// One byte.
-fn put_byte(out: &mut [u8], at: usize, x: u8) -> usize
-    requires { at < length out.old }
-    ensures { Places.Grown at result out.old out.new (x ∷ []) }
-{
-    out[at] = x;
-    at + 1
+    let last = put_number(out, at, base, w - 1, n / base);
+    out[last] = glyph(n % base);
+    last + 1
 }
 
 // An item of a form, with its number.
+#[tactic(auto, unfolding(crate::specs::Forms::render_item, crate::specs::PrivatePlaces::item_of, lane::specs::Words::pick))]
 fn put_item(out: &mut [u8], at: usize, x: u8, value: u32) -> usize
     requires { at + length (Forms.render_item (Places.item_of x) value) ≤ length out.old }
     ensures { Places.Grown at result out.old out.new (Forms.render_item (Places.item_of x) value) }
 {
-    if x < 10 {
-        put_number(out, at, 10, x as usize, value);
-        return at + x as usize;
+    match x {
+        0..=9 => put_number(out, at, 10, x as usize, value),
+        14 => put(out, at, name_of(value)),
+        16..=24 => put_number(out, at, 16, x as usize - 16, value),
+        _ => put(out, at, &[x]),
     }
-    if x == 14 {
-        return put_op(out, at, value);
-    }
-    if x < 16 {
-        return put_byte(out, at, x);
-    }
-    if x <= 24 {
-        put_number(out, at, 16, x as usize - 16, value);
-        return at + (x as usize - 16);
-    }
-    put_byte(out, at, x)
 }
 
 // A form with the numbers of `values` from `from` on.
@@ -310,20 +215,9 @@ pub(crate) fn render(
 {
     let mut n = from;
     let mut at = place;
-    for f in 0..form.len() {
-        let x = form[f];
+    for &x in form {
         at = put_item(out, at, x, word_at(values, n));
         n += count_of(x);
     }
     at
-}
-
-// The first `n` bytes of a page, to the front of lent room.
-pub(crate) fn copy_bytes(page: &[u8], n: usize, room: &mut [u8])
-    requires { (n ≤ length page.now) × (n ≤ length room.old) }
-    ensures { room.new ≡ take n page.now ++ drop n room.old }
-{
-    for i in 0..n {
-        room[i] = page[i];
-    }
 }

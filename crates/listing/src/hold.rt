@@ -1,61 +1,35 @@
-// One reader that keeps hold of the lent text and its line number: a struct with the text, a position and a line, placed once for a line or
-// for the header, and thin functions over it. The work is `scan_at`'s, and callers use `read_form`: the parameters of both are plain.
-ghost use Rattle.std.specs.Prelude.{◌≡◌};
+// One reader that keeps hold of the lent text, its position in it and its line number: it reads a form at a time and stands past it then. The work is `scan`'s.
+ghost use Rattle.std.specs.Prelude.{◌≡◌, ◌^◌, ◌<◌, ◌≤◌, length};
+ghost use Rattle.listing.specs.PrivatePlaces as Places;
 ghost use Rattle.listing.specs.PrivateReader as Held;
 
-use crate::formats::TWO;
+use crate::Fault;
 use crate::forms::scan;
-use crate::{HEAD_2, LINE, OLD_HEAD, Scanned};
-
-// The number of an instruction line among the listing's forms; the others are the heads of the formats, by their numbers.
-pub(crate) const LINE_FORM: u8 = 0;
 
 #[derive(Drop)]
 pub(crate) struct Reader<'a> {
     text: &'a [u8],
-    at: usize,
+    pub(crate) at: usize,
     line: u32,
 }
 
-// The work: a form at a position and a line. Past the text there is none.
-fn scan_at(text: &[u8], at: usize, line: u32, form: u8) -> Scanned
-    ensures { Held.FoundAt text.now at line form result }
-{
-    if text.len() < at {
-        return Scanned {
-            good: false,
-            at: text.len(),
-            line: line as usize,
-            n: 0,
-            numbers: [0; 10],
-        };
+impl<'a> Reader<'a> {
+    // A reader that stands at a position and a line.
+    pub(crate) fn placed(text: &'a [u8], at: usize, line: u32) -> Reader<'a>
+        ensures { (result.text ≡ text.entry) × ((result.at ≡ at) × (result.line ≡ line)) }
+    {
+        Reader { text, at, line }
     }
-    if form == LINE_FORM {
-        return scan(text, at, line, &LINE);
+
+    // The numbers of the form that the reader stands at.
+    pub(crate) fn next(&mut self, form: &[u8]) -> Result<[u32; 9], Fault>
+        requires { (self.old.at ≤ length self.old.text.now) × (self.old.line < 2 ^ 31) × (Places.numbers (Places.form_of form.now) ≤ 9) × (length form.now ≤ 100) }
+        ensures held { self.new.text ≡ self.old.text }
+        ensures found { Held.Advances (Places.form_of form.now) self.old self.new result }
+    {
+        let found = scan(self.text, self.at, self.line, form)?;
+        self.at = found.at;
+        self.line = found.line;
+        Ok(found.numbers)
     }
-    if form == TWO {
-        return scan(text, at, line, &HEAD_2);
-    }
-    scan(text, at, line, &OLD_HEAD)
-}
-
-// A reader that stands at a position and a line.
-fn placed<'a>(text: &'a [u8], at: usize, line: u32) -> Reader<'a>
-    ensures { (result.text ≡ text.entry) × ((result.at ≡ at) × (result.line ≡ line)) }
-{
-    Reader { text, at, line }
-}
-
-// The form that a reader stands at.
-fn next<'a>(r: Reader<'a>, form: u8) -> Scanned
-    ensures { Held.FoundAt r.entry.text.now r.entry.at r.entry.line form result }
-{
-    scan_at(r.text, r.at, r.line, form)
-}
-
-// A form, read through the reader.
-pub(crate) fn read_form(text: &[u8], at: usize, line: u32, form: u8) -> Scanned
-    ensures { Held.FoundAt text.now at line form result }
-{
-    next(placed(text, at, line), form)
 }

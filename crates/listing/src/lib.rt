@@ -21,7 +21,9 @@ mod report;
 // A listing in, a report out: the program.
 pub mod program;
 
-// What a reading returns: the settings, the outcome, and how many words of the lent room the list takes.
+// What a reading returns: the settings, the outcome, and how many words of the lent room the list takes. It is no Result, and neither are the two after it, since
+// `refused_reading`, `refused_writing`, `reporting` and the theorems RefusedReadingTouchesNothing and RefusedWritingTouchesNothing (crate claims) speak of what a
+// refusal has in each field.
 #[derive(Clone, Copy)]
 pub struct Reading {
     pub settings: lane::Settings,
@@ -49,32 +51,25 @@ pub struct Reporting {
     pub length: usize,
 }
 
-// An item scanned in a text: whether it is there, the position after it, and its number, if it has one.
+// An item scanned in a text: the position after it, and its number, if it has one.
 #[derive(Clone, Copy)]
 struct Got {
-    good: bool,
     at: usize,
-    count: usize,
-    value: u32,
+    number: Option<u32>,
 }
 
-// A form scanned in a text: whether it is there, the position and the line after it or else those of the fault, how many numbers were
-// found, and the numbers.
+// A form scanned in a text: the position and the line after it, and its numbers, which stand in front.
 #[derive(Clone, Copy)]
 struct Scanned {
-    good: bool,
     at: usize,
-    line: usize,
-    n: usize,
-    numbers: [u32; 10],
+    line: u32,
+    numbers: [u32; 9],
 }
 
-// An instruction line as a whole: whether it is plainly in form, the position after it, and its instruction.
+// A form that is not there: the line at fault.
 #[derive(Clone, Copy)]
-struct Line {
-    good: bool,
-    at: usize,
-    insn: lane::Insn,
+struct Fault {
+    line: u32,
 }
 
 // Lines that are plainly in form, from a position on: how many, and the position after them.
@@ -84,15 +79,11 @@ struct Plain {
     at: usize,
 }
 
-// The rest of a text, its instruction lines: whether all are there, the position and the line after them or else those of the fault, and
-// the first refused instruction's number and index, or 0 and 0.
+// The instruction lines of a text: the position after them, and the first refused instruction, if there is one.
 #[derive(Clone, Copy)]
 struct Rest {
-    good: bool,
     at: usize,
-    line: u32,
-    answer: u32,
-    place: u32,
+    found: Result<(), runner::Refused>,
 }
 
 // The listing's forms, by the rule of `forms`: what stands before the instruction lines, format by format, and an instruction line.

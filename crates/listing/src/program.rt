@@ -11,10 +11,11 @@ use crate::reader::{read, refused};
 use crate::report::report;
 use crate::writer::write;
 use crate::{Reading, Reporting};
-use lane::Settings;
+use lane::{Refusal, Settings};
 use runner::run::run;
 
 // A run from zeros, reported.
+#[tactic(auto, unfolding(crate::specs::Program::run_report))]
 fn run_reported(s: Settings, list: &[u32], room: &mut [u8]) -> Reporting
     ensures { Report.Reports (Program.run_report s list.now) room.old room.new result }
 {
@@ -26,6 +27,7 @@ fn run_reported(s: Settings, list: &[u32], room: &mut [u8]) -> Reporting
 }
 
 // A refused reading, reported.
+#[tactic(auto, unfolding(crate::specs::Program::refusal_report))]
 fn refusal_reported(r: Reading, room: &mut [u8]) -> Reporting
     ensures { Report.Reports (Program.refusal_report r) room.old room.new result }
 {
@@ -43,7 +45,7 @@ fn read_held(text: &[u8], list: &mut [u32]) -> Reading
     ensures { Held.Reads (Program.read_held text.now) list.old list.new result }
 {
     if HELD_BYTES < text.len() {
-        return refused(11, 0, 0);
+        return refused(Refusal::Room, 0, 0);
     }
     read(text, list)
 }
@@ -74,7 +76,7 @@ fn written(s: Settings, list: &[u32], room: &mut [u8]) -> Reporting
     }
 }
 
-// The whole output where a listing is to be rewritten: the same settings and list in the format that is written, in front of the lent room.
+// The whole output where a listing is to be rewritten, in a function of its own, since what follows a good reading has another promise: the same settings and list in the format that is written, in front of the lent room.
 pub fn rewrite(text: &[u8], room: &mut [u8]) -> Reporting
     ensures { Report.Reports (Program.rewritten text.now) room.old room.new result }
 {

@@ -1,38 +1,30 @@
 // Text to settings and list, line by line through the reader: once over the text for every check, and once more into the lent room.
-ghost use Rattle.std.specs.Prelude.{◌≡◌, true, ◌+◌, ◌*◌, ◌<◌, ◌≤◌, length, take, drop};
-ghost use Rattle.lane.specs.Refusals.{instruction_answer};
-ghost use Rattle.runner.specs.Checks.{insn_at, found, scanned, list_limit};
+ghost use Rattle.std.specs.Prelude.{◌≡◌, true, ◌+◌, ◌*◌, ◌≤◌, length, drop};
+ghost use Rattle.lane.specs.Refusals.{number, instruction_answer};
+ghost use Rattle.runner.specs.Checks.{insn_at, found, found_by, scanned, list_limit};
 ghost use Rattle.listing.specs.Forms as Forms;
 ghost use Rattle.listing.specs.PrivatePlaces as Places;
 ghost use Rattle.listing.specs.PrivateLines as Lines;
 ghost use Rattle.listing.specs.PrivateReader as Held;
 ghost use Rattle.listing.specs.Listing as Listing;
 
-use crate::formats::{first_line, format_of, limit_of};
-use crate::forms::word_at;
-use crate::hold::{LINE_FORM, read_form};
-use crate::lines::{HIGHS, LOWS, plain_end, plain_line};
-use crate::{Plain, Reading, Rest};
+use crate::formats::Format;
+use crate::forms::{put, word_at};
+use crate::hold::Reader;
+use crate::lines::{LineRows, plain_end, plain_line};
+use crate::{Fault, LINE, Plain, Reading, Rest};
 use lane::refuse::{instruction_answer, settings_good};
-use lane::{Insn, Settings};
-use runner::Found;
+use lane::{Insn, Refusal, Settings};
+use runner::Refused;
 
-// A refusal.
-pub(crate) fn refused(answer: u32, place: u32, cursor: u32) -> Reading
-    ensures { result ≡ Listing.refused_reading answer place cursor }
+// A refusal. The writer has its own, since `Reading` and `Writing` are public structs of their own.
+#[tactic(auto, unfolding(crate::specs::Listing::refused_reading))]
+pub(crate) fn refused(why: Refusal, place: u32, cursor: u32) -> Reading
+    ensures { result ≡ Listing.refused_reading (number why) place cursor }
 {
     Reading {
-        settings: Settings {
-            edition: 0,
-            srcb: 0,
-            offset: 0,
-            cursor,
-            stride0: 0,
-            stride1: 0,
-            stride2: 0,
-            stride3: 0,
-        },
-        answer,
+        settings: Settings::from([0, 0, 0, cursor, 0, 0, 0, 0]),
+        answer: u32::from(why),
         steps: 0,
         place,
         cursor,
@@ -40,7 +32,8 @@ pub(crate) fn refused(answer: u32, place: u32, cursor: u32) -> Reading
     }
 }
 
-// Settings, from words in the listing's order; a word that is lacking counts as 0.
+// Settings, from words in the listing's order; a word that is lacking counts as 0, where `Settings::from` takes eight.
+#[tactic(auto, unfolding(crate::specs::Listing::settings_of))]
 pub fn settings_of(words: &[u32]) -> Settings
     ensures { result ≡ Listing.settings_of words.now }
 {
@@ -56,123 +49,79 @@ pub fn settings_of(words: &[u32]) -> Settings
     }
 }
 
-// The first `count` of a line's numbers, into lent room from `place` on; where they end.
-fn put_words(words: &mut [u32], place: usize, count: usize, numbers: &[u32]) -> usize
-    requires { (count ≤ length numbers.now) × (place + count ≤ length words.old) }
-    ensures { Places.Grown place result words.old words.new (take count numbers.now) }
-{
-    for i in 0..count {
-        words[place + i] = numbers[i];
-    }
-    place + count
-}
-
 // The first refused instruction, `k` being met after those before it.
-fn first_refused(answer: u32, place: u32, k: u32, numbers: &[u32; 10]) -> Found
-    ensures { result ≡ Held.first_refused (found answer place) k (instruction_answer true (insn_at numbers.now 0)) }
+fn first_refused(found: Result<(), Refused>, k: u32, numbers: &[u32; 9]) -> Result<(), Refused>
+    ensures { found_by result ≡ Held.first_refused (found_by found) k (instruction_answer true (insn_at numbers.now 0)) }
 {
-    if answer == 0 {
-        let insn = Insn {
-            op: numbers[0],
-            imm: numbers[1],
-            vb: numbers[2],
-            vc: numbers[3],
-            vd: numbers[4],
-            md: numbers[5],
-        };
-        let next = instruction_answer(true, insn);
-        if next != 0 {
-            return Found {
-                answer: next,
-                place: k,
-            };
-        }
+    found?;
+    let [op, imm, vb, vc, vd, md, ..] = *numbers;
+    let insn = Insn::from([op, imm, vb, vc, vd, md]);
+    if let Err(why) = instruction_answer(true, insn) {
+        return Err(Refused { why, place: k });
     }
-    Found { answer, place }
+    Ok(())
 }
 
 // The instruction lines that are plainly good, from a position on.
-fn plain_lines(lows: &[u8; 816], highs: &[u8; 816], text: &[u8], from: usize, count: u32) -> Plain
-    requires { Lines.Rows lows.now highs.now × (from ≤ length text.now) }
-    ensures { Held.Checking text.now from count result.at 0 0 result.lines }
+fn plain_lines(table: LineRows, text: &[u8], from: usize, count: u32) -> Plain
+    requires { from ≤ length text.now }
+    ensures { Held.Checking text.now from count result.at (found 0 0) result.lines }
 {
     let mut at = from;
-    let mut i: u32 = 0;
-    while i < count {
-        let end = plain_end(lows, highs, text, at);
-        if end == 0 {
+    for i in 0..count {
+        let Some(end) = plain_end(table, text, at) else {
             return Plain { lines: i, at };
-        }
+        };
         at = end;
-        i += 1;
     }
-    Plain { lines: i, at }
+    Plain { lines: count, at }
 }
 
 // The instruction lines from line `first` on, their form and their fields: those that are plainly good, and then one by one.
-fn check_lines(text: &[u8], from: usize, first: u32, count: u32) -> Rest
+fn check_lines(text: &[u8], from: usize, first: u32, count: u32) -> Result<Rest, Fault>
     requires { (from ≤ length text.now) × (first ≤ 100) × (count ≤ list_limit) }
-    ensures { Places.Checked (Forms.scan (Listing.lines count) (drop from text.now)) text.now first count result }
+    ensures { Held.Checks text.now from first count result }
 {
-    let plain = plain_lines(&LOWS, &HIGHS, text, from, count);
-    let mut at = plain.at;
-    let mut answer: u32 = 0;
-    let mut place: u32 = 0;
-    let mut i = plain.lines;
-    while i < count {
-        let c = read_form(text, at, first + i, LINE_FORM);
-        if c.good {
-            let found = first_refused(answer, place, i, &c.numbers);
-            answer = found.answer;
-            place = found.place;
-            at = c.at;
-            i += 1;
-        } else {
-            return Rest {
-                good: false,
-                at: c.at,
-                line: c.line as u32,
-                answer,
-                place,
-            };
-        }
+    let plain = plain_lines(LineRows::new(), text, from, count);
+    let mut reader = Reader::placed(text, plain.at, first + plain.lines);
+    let mut found = Ok(());
+    for i in plain.lines..count {
+        let numbers = reader.next(&LINE)?;
+        found = first_refused(found, i, &numbers);
     }
-    Rest {
-        good: true,
-        at,
-        line: first + i,
-        answer,
-        place,
-    }
+    Ok(Rest {
+        at: reader.at,
+        found,
+    })
 }
 
-// The instruction lines that are plainly in form, into the front of the lent room.
-fn fill_plain(
-    lows: &[u8; 816],
-    highs: &[u8; 816],
-    text: &[u8],
-    from: usize,
-    count: u32,
-    list: &mut [u32],
-) -> Plain
-    requires { Lines.Rows lows.now highs.now × ((from ≤ length text.now) × ((6 * count ≤ length list.old) × Places.Whole (Forms.scan (Listing.lines count) (drop from text.now)))) }
-    ensures { Held.Filling text.now from count list.old list.new result.at (6 * result.lines) result.lines }
+// An instruction's words, into lent room from a position on; where they end. One by one, since `copy_from_slice` looks whether the two overlap, and reading
+// takes 1.07 of its time so.
+fn put_words(list: &mut [u32], at: usize, words: &[u32; 6]) -> usize
+    requires { at + 6 ≤ length list.old }
+    ensures { Places.Grown at result list.old list.new words.now }
+{
+    for j in 0..6 {
+        list[at + j] = words[j];
+    }
+    at + 6
+}
+
+// The instruction lines that are plainly in form, into the front of the lent room. That all of them are in form is a fact of a text that is lent and of a number of
+// lines in it, and of no value of ours that could hold it.
+fn fill_plain(table: LineRows, text: &[u8], from: usize, count: u32, list: &mut [u32]) -> Plain
+    requires { (from ≤ length text.now) × ((6 * count ≤ length list.old) × Places.Whole (Forms.scan (Listing.lines count) (drop from text.now))) }
+    ensures { Held.Filling text.now from count list.old list.new result.at result.lines }
 {
     let mut at = from;
-    let mut n: usize = 0;
-    let mut i: u32 = 0;
-    while i < count {
-        let l = plain_line(lows, highs, text, at);
-        if l.good {
-            let w = l.insn;
-            n = put_words(list, n, 6, &[w.op, w.imm, w.vb, w.vc, w.vd, w.md]);
-            at = l.at;
-            i += 1;
-        } else {
+    for i in 0..count {
+        let Some((end, w)) = plain_line(table, text, at) else {
             return Plain { lines: i, at };
-        }
+        };
+        put_words(list, 6 * i as usize, &<[u32; 6]>::from(w));
+        at = end;
     }
-    Plain { lines: i, at }
+    Plain { lines: count, at }
 }
 
 // The instruction lines once more, into the front of the lent room.
@@ -180,15 +129,11 @@ fn fill_lines(text: &[u8], from: usize, count: u32, list: &mut [u32])
     requires { (from ≤ length text.now) × (count ≤ list_limit) × (6 * count ≤ length list.old) × Places.Whole (Forms.scan (Listing.lines count) (drop from text.now)) }
     ensures { list.new ≡ Listing.in_front (Places.numbers_of (Forms.scan (Listing.lines count) (drop from text.now))) list.old }
 {
-    let plain = fill_plain(&LOWS, &HIGHS, text, from, count, list);
-    let mut at = plain.at;
-    let mut i = plain.lines;
-    let mut n = 6 * i as usize;
-    while i < count {
-        let c = read_form(text, at, 1, LINE_FORM);
-        n = put_words(list, n, 6, &c.numbers);
-        at = c.at;
-        i += 1;
+    let plain = fill_plain(LineRows::new(), text, from, count, list);
+    let mut reader = Reader::placed(text, plain.at, plain.lines);
+    for i in plain.lines..count {
+        let numbers = reader.next(&LINE).unwrap();
+        put(list, 6 * i as usize, &numbers[..6]);
     }
 }
 
@@ -198,55 +143,52 @@ fn read_list(
     text: &[u8],
     at: usize,
     count: u32,
-    found: Found,
+    found: Result<(), Refused>,
     list: &mut [u32],
 ) -> Reading
-    requires { (at ≤ length text.now) × (count ≤ list_limit) × Places.Whole (Forms.scan (Listing.lines count) (drop at text.now)) × (found ≡ scanned (Places.numbers_of (Forms.scan (Listing.lines count) (drop at text.now)))) }
+    requires { (at ≤ length text.now) × (count ≤ list_limit) × Places.Whole (Forms.scan (Listing.lines count) (drop at text.now)) × (found_by found ≡ scanned (Places.numbers_of (Forms.scan (Listing.lines count) (drop at text.now)))) }
     ensures { Held.Reads (Listing.read_list (length list.old) s (Places.numbers_of (Forms.scan (Listing.lines count) (drop at text.now)))) list.old list.new result }
 {
-    if settings_good(s) {
-        if found.answer != 0 {
-            return refused(found.answer, found.place, s.cursor);
-        }
-        let n = 6 * count as usize;
-        if list.len() < n {
-            return refused(11, 0, 0);
-        }
-        fill_lines(text, at, count, list);
-        return Reading {
-            settings: s,
-            answer: 0,
-            steps: 0,
-            place: 0,
-            cursor: s.cursor,
-            length: n,
-        };
+    if !settings_good(s) {
+        return refused(Refusal::Setting, 0, s.cursor);
     }
-    refused(3, 0, s.cursor)
+    if let Err(first) = found {
+        return refused(first.why, first.place, s.cursor);
+    }
+    let n = 6 * count as usize;
+    if list.len() < n {
+        return refused(Refusal::Room, 0, 0);
+    }
+    fill_lines(text, at, count, list);
+    Reading {
+        settings: s,
+        answer: 0,
+        steps: 0,
+        place: 0,
+        cursor: s.cursor,
+        length: n,
+    }
 }
 
 // What follows the head of a listing in a format.
-fn read_rest(text: &[u8], at: usize, format: u8, head: &[u32; 10], list: &mut [u32]) -> Reading
+fn read_rest(text: &[u8], at: usize, format: Format, head: &[u32; 9], list: &mut [u32]) -> Reading
     requires { at ≤ length text.now }
-    ensures { Held.Reads (Listing.read_header (Held.format_by format) (length list.old) (Forms.taken head.now (drop at text.now))) list.old list.new result }
+    ensures { Held.Reads (Listing.read_header (Held.row format) (length list.old) (Forms.taken head.now (drop at text.now))) list.old list.new result }
 {
     let count = head[8];
-    if limit_of(format) < count {
-        return refused(5, 0, head[3]);
+    if format.limit() < count {
+        return refused(Refusal::ListLimit, 0, head[3]);
     }
-    let first = first_line(format);
-    let c = check_lines(text, at, first, count);
-    if c.good {
-        if c.at < text.len() {
-            return refused(10, first + count, 0);
+    let first = format.first_line();
+    match check_lines(text, at, first, count) {
+        Ok(rest) => {
+            if rest.at < text.len() {
+                return refused(Refusal::Text, first + count, 0);
+            }
+            read_list(settings_of(head), text, at, count, rest.found, list)
         }
-        let found = Found {
-            answer: c.answer,
-            place: c.place,
-        };
-        return read_list(settings_of(head), text, at, count, found, list);
+        Err(fault) => refused(Refusal::Text, fault.line, 0),
     }
-    refused(10, c.line, 0)
 }
 
 // The most bytes of a listing.
@@ -257,12 +199,12 @@ pub fn read(text: &[u8], list: &mut [u32]) -> Reading
     ensures { (result ≡ (Listing.read_text (length list.old) text.now).reading) × (list.new ≡ Listing.in_front (Listing.read_text (length list.old) text.now).list list.old) }
 {
     if TEXT_LIMIT < text.len() {
-        return refused(11, 0, 0);
+        return refused(Refusal::Room, 0, 0);
     }
-    let format = format_of(text);
-    let c = read_form(text, 0, 1, format);
-    if c.good {
-        return read_rest(text, c.at, format, &c.numbers, list);
+    let format = Format::of(text);
+    let mut reader = Reader::placed(text, 0, 1);
+    match reader.next(format.head()) {
+        Ok(head) => read_rest(text, reader.at, format, &head, list),
+        Err(fault) => refused(Refusal::Text, fault.line, 0),
     }
-    refused(10, c.line as u32, 0)
 }

@@ -5,7 +5,8 @@ ghost use Rattle.listing.specs.PrivatePlaces as Places;
 ghost use Rattle.listing.specs.Report as Report;
 
 use crate::Reporting;
-use crate::forms::{copy_bytes, put_number, render, word_at};
+use crate::forms::{put, put_number, render, word_at};
+use lane::Refusal;
 
 // The report's forms, by the rule of `forms`; the answer's digits stand between the first two.
 const ANSWER: [u8; 7] = *b"answer=";
@@ -14,35 +15,15 @@ const OUTCOME: [u8; 26] = *b"\nsteps=\x05\nplace=\x05\ncursor=\x04\n";
 
 const CHANGE: [u8; 20] = *b"reg=\x02 lane=\x02 word=\x18\n";
 
-// The powers of ten.
-const POWERS: [u32; 10] = [
-    1,
-    10,
-    100,
-    1000,
-    1_0000,
-    10_0000,
-    100_0000,
-    1000_0000,
-    1_0000_0000,
-    10_0000_0000,
-];
-
 // How many digits a number takes.
 fn width(n: u32) -> usize
     ensures { (result ≡ Report.width_of n) × (result ≤ 10) }
 {
-    let mut w: usize = 10;
-    while w > 0 {
-        if POWERS[w - 1] <= n {
-            return w;
-        }
-        w -= 1;
-    }
-    1
+    n.max(1).ilog10() as usize + 1
 }
 
 // The register of a slot.
+#[tactic(auto, unfolding(crate::specs::Report::register_of, lane::specs::Words::pick))]
 fn register_of(slot: u32) -> u32
     requires { slot < 12 }
     ensures { result ≡ Report.register_of slot }
@@ -50,16 +31,15 @@ fn register_of(slot: u32) -> u32
     if slot < 8 { slot } else { slot + 3 }
 }
 
-// The four lines of an outcome: 54 bytes at most.
+// The four lines of an outcome: 54 bytes at most. Its four numbers go one by one, since a refused reading and a run hand them on from structs of their own.
 fn put_outcome(answer: u32, steps: u32, place: u32, cursor: u32, page: &mut [u8]) -> usize
     requires { 54 ≤ length page.old }
     ensures { Places.Renders (Report.outcome_lines answer steps place cursor) 0 54 page.old page.new result }
 {
     let values = [answer, steps, place, cursor];
-    let w = width(answer);
     let at = render(&ANSWER, &values, 0, page, 0);
-    put_number(page, at, 10, w, answer);
-    render(&OUTCOME, &values, 1, page, at + w)
+    let end = put_number(page, at, 10, width(answer), answer);
+    render(&OUTCOME, &values, 1, page, end)
 }
 
 // The line of word `p`, where it changed.
@@ -122,10 +102,10 @@ pub(crate) fn report(
     let n = put_report(answer, steps, place, cursor, before, after, &mut page);
     if text.len() < n {
         return Reporting {
-            answer: 11,
+            answer: u32::from(Refusal::Room),
             length: 0,
         };
     }
-    copy_bytes(&page, n, text);
+    put(text, 0, &page[..n]);
     Reporting { answer, length: n }
 }

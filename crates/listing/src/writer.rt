@@ -1,5 +1,6 @@
 // Settings and list to text: the checks, a count of the bytes, and the lent room only then.
 ghost use Rattle.std.specs.Prelude.{◌≡◌, ◌+◌, ◌*◌, ◌<◌, ◌≤◌, length};
+ghost use Rattle.lane.specs.Refusals.{number};
 ghost use Rattle.runner.specs.Checks.{count_of, list_limit};
 ghost use Rattle.listing.specs.Forms as Forms;
 ghost use Rattle.listing.specs.PrivatePlaces as Places;
@@ -7,17 +8,18 @@ ghost use Rattle.listing.specs.PrivateLines as Lines;
 ghost use Rattle.listing.specs.Listing as Listing;
 
 use crate::forms::render;
-use crate::lines::{LOWS, line_length, put_line};
+use crate::lines::{LineRows, line_length, put_line};
 use crate::{HEAD_2, Writing};
-use lane::Settings;
+use lane::{Refusal, Settings};
 use runner::checks::list_answer;
 
-// A refusal.
-fn refused(answer: u32, place: u32, cursor: u32) -> Writing
-    ensures { result ≡ Listing.refused_writing answer place cursor }
+// A refusal. The reader has its own, since `Reading` and `Writing` are public structs of their own.
+#[tactic(auto, unfolding(crate::specs::Listing::refused_writing))]
+fn refused(why: Refusal, place: u32, cursor: u32) -> Writing
+    ensures { result ≡ Listing.refused_writing (number why) place cursor }
 {
     Writing {
-        answer,
+        answer: u32::from(why),
         steps: 0,
         place,
         cursor,
@@ -25,7 +27,8 @@ fn refused(answer: u32, place: u32, cursor: u32) -> Writing
     }
 }
 
-// The header's numbers.
+// The header's numbers: by hand, since the eight of `From` and the count make no plainer nine.
+#[tactic(auto, unfolding(crate::specs::Listing::header_of))]
 fn header_of(s: Settings, count: u32) -> [u32; 9]
     ensures { result ≡ Listing.header_of s count }
 {
@@ -34,28 +37,26 @@ fn header_of(s: Settings, count: u32) -> [u32; 9]
     ]
 }
 
-// How many bytes the instruction lines take.
+// How many bytes the instruction lines take. That a list is short and its ops have names is a fact of what is lent, which no value of ours could hold.
 fn lines_length(list: &[u32]) -> usize
     requires { (length list.now ≤ 6 * list_limit) × Lines.Named list.now }
     ensures { result ≡ length (Forms.render (Listing.lines (count_of list.now)) list.now) }
 {
-    let count = list.len() / 6;
     let mut n: usize = 0;
-    for k in 0..count {
-        n += line_length(list[6 * k]);
+    for insn in list.as_chunks::<6>().0 {
+        n += line_length(insn[0]);
     }
     n
 }
 
 // The instruction lines.
-fn put_lines(lows: &[u8; 816], list: &[u32], text: &mut [u8], place: usize) -> usize
-    requires { Lines.RowsOf 0 lows.now × (length list.now ≤ 6 * list_limit) × Lines.Named list.now × (place + length (Forms.render (Listing.lines (count_of list.now)) list.now) ≤ length text.old) }
+fn put_lines(table: LineRows, list: &[u32], text: &mut [u8], place: usize) -> usize
+    requires { (length list.now ≤ 6 * list_limit) × Lines.Named list.now × (place + length (Forms.render (Listing.lines (count_of list.now)) list.now) ≤ length text.old) }
     ensures { Places.Grown place result text.old text.new (Forms.render (Listing.lines (count_of list.now)) list.now) }
 {
-    let count = list.len() / 6;
     let mut at = place;
-    for k in 0..count {
-        at = put_line(lows, list, 6 * k, text, at);
+    for insn in list.as_chunks::<6>().0 {
+        at = put_line(table, insn, text, at);
     }
     at
 }
@@ -67,7 +68,7 @@ fn put_listing(s: Settings, list: &[u32], text: &mut [u8])
 {
     let count = (list.len() / 6) as u32;
     let at = render(&HEAD_2, &header_of(s, count), 0, text, 0);
-    put_lines(&LOWS, list, text, at);
+    put_lines(LineRows::new(), list, text, at);
 }
 
 // The bytes of the head.
@@ -77,13 +78,12 @@ const HEAD_WIDTH: usize = 114;
 pub fn write(s: Settings, list: &[u32], text: &mut [u8]) -> Writing
     ensures { (result ≡ (Listing.write_list (length text.old) s list.now).writing) × (text.new ≡ Listing.in_front (Listing.write_list (length text.old) s list.now).bytes text.old) }
 {
-    let found = list_answer(s, list);
-    if found.answer != 0 {
-        return refused(found.answer, found.place, s.cursor);
+    if let Err(first) = list_answer(s, list) {
+        return refused(first.why, first.place, s.cursor);
     }
     let n = HEAD_WIDTH + lines_length(list);
     if text.len() < n {
-        return refused(11, 0, 0);
+        return refused(Refusal::Room, 0, 0);
     }
     put_listing(s, list, text);
     Writing {

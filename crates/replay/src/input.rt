@@ -16,6 +16,7 @@ pub(crate) fn read_all<R: Read>(reader: &mut R, buf: &mut [u8]) -> Result<usize,
     ensures { MatchResult result (λ n. IsPrefixLen n buf.new) (λ f. IsPrefixLen f.length buf.new) }
 {
     let mut length: usize = 0;
+    // what a read gives decides how far the next one goes, so that no range counts it
     while length < buf.len() {
         match reader.read(&mut buf[length..]) {
             Ok(0) => break,

@@ -6,7 +6,7 @@ use Rattle.lane.specs.Words.{pick}
 use Rattle.lane.specs.Refusals.{pass, settings_good, instruction_answer}
 use Rattle.lane.proofs.Cases.{pick_true, pick_false}
 use Rattle.lane.proofs.Accepted.{answer_small}
-use Rattle.runner.specs.declared.Found.{Found}
+use Rattle.runner.specs.Checks.{Found}
 use Rattle.runner.specs.Image.{image_good}
 use Rattle.runner.specs.Checks.{insn_at, count_of, found, scan, scanned, list_limit, given_answer, first_answer, then_scanned, run_answer, list_answer}
 

@@ -9,7 +9,8 @@ use Rattle.lane.proofs.Cases.{pick_true, pick_false}
 use Rattle.lane.proofs.Counted.{flag_true, flag_false, config_count, none_count}
 use Rattle.runner.specs.Image.{lane_in}
 use Rattle.runner.specs.PrivateRows.{row, full, storing}
-use Rattle.runner.specs.PrivateConfig.{columns, reached, reached_in, config_slot, config_value, written}
+use Rattle.runner.specs.PrivateRows.{columns}
+use Rattle.runner.specs.PrivateConfig.{reached, reached_in, config_slot, config_value, written}
 use Rattle.runner.specs.PrivateSteps.{counted, times}
 use Rattle.runner.proofs.Lanes.{split, storing_same}
 use Rattle.runner.proofs.Filled.{Spread, columns_more, spread_end, operand}

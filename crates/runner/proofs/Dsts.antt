@@ -97,13 +97,6 @@ pub record Celled (g : ℕ → ℕ) (first : ℕ) (dst : List ℕ) (n : ℕ) (no
   pub put : (p : ℕ) → first ≤ p → p < first + n → get_or now p 0 ≡ g p
   pub kept : (p : ℕ) → (first ≤ p → p < first + n → ⊥) → get_or now p 0 ≡ get_or dst p 0
 
-pub cell_start : (g : ℕ → ℕ) (first : ℕ) (dst : List ℕ) → Celled g first dst 0 dst
-cell_start g first dst =
-    record { within = omega arith; long = refl; put = λ p h k. absurd (none p h k); kept = λ p h. refl }
-  where
-    none : (p : ℕ) → first ≤ p → p < first + 0 → ⊥
-    none p h k = omega arith
-
 pub cell_more : (g : ℕ → ℕ) (first : ℕ) (dst : List ℕ) (n v : ℕ) (now : List ℕ) → n < 64 → first + 64 ≤ length dst → Celled g first dst n now → v ≡ g (first + n)
     → Celled g first dst (n + 1) (set now (first + n) v)
 cell_more g first dst n v now l fits h e =

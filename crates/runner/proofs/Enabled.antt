@@ -1,5 +1,5 @@
 -- The masks of the enabled lanes: read at a lane, kept by stores that leave the flags, and kept up by one that doesn't. Assumes nothing.
-use Rattle.std.proofs.Common.{◌≡◌, ℕ, ◌<◌, ◌≤◌, eqb, List, [], ◌∷◌, length, get_or, set, sym, refl, ap, ◌∙◌, arith, length-set, get_or-set_other, get_or-set_same, ne_eqb}
+use Rattle.std.proofs.Common.{◌≡◌, ℕ, ◌<◌, eqb, List, [], ◌∷◌, length, get_or, set, sym, refl, ap, ◌∙◌, arith, length-set, get_or-set_other, get_or-set_same, ne_eqb}
 use native.Mathlib.Decide.{ℕ_discrete}
 use Rattle.lane.specs.Words.{pick, Lane, Stores, enabled, upd, after}
 use Rattle.lane.proofs.Cases.{pick_false}
@@ -7,7 +7,6 @@ use Rattle.lane.proofs.Stores.{upd_other}
 use Rattle.runner.specs.Image.{lane_in}
 use Rattle.runner.specs.PrivateRows.{full, Enabled, storing, storing_in}
 use Rattle.runner.proofs.Lanes.{Turned, turn_lane, lane_storing}
-use Rattle.runner.proofs.Filled.{Spread}
 
 -- in a loop over the lanes, the turn's lane is as it was at the start
 pub enabled_turn : (made : ℕ → Lane → Stores) (image go : List ℕ) (n : ℕ) (now : List ℕ) → length image ≡ 768 → n < 32 → Enabled go image
@@ -15,10 +14,6 @@ pub enabled_turn : (made : ℕ → Lane → Stores) (image go : List ℕ) (n : �
     → get_or go n 0 ≡ full (enabled (lane_in now n))
 enabled_turn made image go n now e l g h =
     g.mask_is n l ∙ ap (λ (own : Lane). full (enabled own)) (sym (turn_lane made image n now e l h))
-
--- the row is filled
-pub enabled_end : (image go : List ℕ) (n : ℕ) → 32 ≤ n → Spread (λ L. full (enabled (lane_in image L))) 128 128 n go → Enabled go image
-enabled_end image go n l h = record { size = h.long; mask_is = λ k m. h.made k (omega arith) (omega arith) }
 
 same_enabled : (a b : List ℕ) (L M : ℕ) → lane_in a L 13 ≡ lane_in b M 13 → lane_in a L 14 ≡ lane_in b M 14 → full (enabled (lane_in a L)) ≡ full (enabled (lane_in b M))
 same_enabled a b L M p q = cc

@@ -1,6 +1,9 @@
 -- Rows: a local array of 32 words that a loop fills. Assumes nothing.
-use Rattle.std.proofs.Common.{◌≡◌, ℕ, ◌+◌, ◌%◌, ◌<◌, ◌≤◌, List, length, get_or, set, sym, ap, ◌∙◌, arith, length-set, get_or-set_other, get_or-set_same, ext_get_or}
+use Rattle.std.proofs.Common.{zero, suc, refl, ◌≡◌, ℕ, ◌+◌, ◌%◌, ◌<◌, ◌≤◌, List, length, get_or, set, sym, ap, ◌∙◌, arith, length-set, get_or-set_other, get_or-set_same, ext_get_or}
 use native.Mathlib.Decide.{ℕ_discrete}
+use Rattle.std.specs.Array.{IsFromFnResult, IsFromFnResultFrom}
+use denote.Param.Members.{Mut, MutLaws, Called, step_gives}
+use mathlib.Core.Path.{subst}
 use Rattle.lane.specs.Words.{build}
 use Rattle.lane.proofs.Stores.{length_build, get_d_build, build_same}
 use Rattle.runner.specs.PrivateRows.{row}
@@ -71,15 +74,6 @@ spread_end g m len n words all h =
     at : (k : ℕ) → k < len → get_or words k 0 ≡ get_or (build len g) k 0
     at k l = h.made k l (all k l) ∙ sym (get_d_build len g k l)
 
--- one word more, of 128
-pub one_more : (g : ℕ → ℕ) (n : ℕ) (words : List ℕ) (v : ℕ) → n < 128 → Spread g 128 128 n words → v ≡ g n → Spread g 128 128 (n + 1) (set words n v)
-one_more g n words v l h e =
-    record {
-      within = omega arith;
-      long = length-set words n v ∙ h.long;
-      made = λ p k r. put_holds g words n v p (omega (arith, h.long)) e (λ q. h.made p k (omega arith));
-    }
-
 -- four rows of 32
 pub rows_more : (g : ℕ → ℕ) (n : ℕ) (words : List ℕ) (a b c d : ℕ) → n < 32 → Spread g 32 128 n words
     → a ≡ g n → b ≡ g (32 + n) → c ≡ g (64 + n) → d ≡ g (96 + n)
@@ -111,3 +105,21 @@ columns_more g n words v l h ea eb ec ed =
         (λ nc.
         put_holds g (set words n v) (8 + n) v p (simp length-set (omega (arith, h.long))) eb
         (λ nb. put_holds g words n v p (omega (arith, h.long)) ea (λ na. h.made p k (omega arith)))))
+
+-- the words that calls at each number in turn gave, where a call leaves what is called as it is
+module _ {F : Type 0} (g : Mut F (ℕ × Unit {0}) ℕ) (law : MutLaws g) (stays : (f : F) (a : ℕ × Unit {0}) (r : ℕ) (f' : F) → Called g f a r f' → f' ≡ f) (f : F) (w : ℕ → ℕ) (words : List ℕ)
+    (h : (n v : ℕ) → n < 32 → g.post f (n, tt) v → v ≡ w n) where
+  given_from : (n i : ℕ) (p : F) → i + n ≡ 32 → p ≡ f → IsFromFnResultFrom g p words i n → (k : ℕ) → i ≤ k → k < 32 → get_or words k 0 ≡ w k
+  given_from zero i p e q t k a b = absurd (omega arith)
+  given_from (suc n) i p e q t k a b =
+      by (ℕ_discrete k i)
+      (λ m. given_from n (i + 1) t.0 (omega arith) (stays p (i, tt) t.1 t.0 t.3 ∙ q) t.4 k m b)
+    where
+      by : Dec (k ≡ i) → (i + 1 ≤ k → get_or words k 0 ≡ w k) → get_or words k 0 ≡ w k
+      by (yes s) later =
+          ap (λ (j : ℕ). get_or words j 0) s ∙ t.2.1 0
+          ∙ h i t.1 (omega arith) (subst (λ z. g.post z (i, tt) t.1) q (step_gives g p (i, tt) t.1 t.0 law t.3)) ∙ ap w (sym s)
+      by (no s) later = later (omega arith)
+
+  pub given_row : IsFromFnResult g f words 32 → words ≡ row w
+  given_row r = fill_end w 32 words (omega arith) (record { within = omega arith; long = r.long; made = λ k l. given_from 32 0 f refl refl r.each k (omega arith) l })

@@ -10,11 +10,11 @@ use Rattle.lane.proofs.Places.{even_place, odd_place, place_is}
 use Rattle.lane.proofs.Stores.{get_d_build, upd_other}
 use Rattle.runner.specs.Image.{lane_in}
 use Rattle.runner.specs.Run.{even_cell, odd_cell}
-use Rattle.runner.specs.PrivateRows.{storing, storing_in, row, full, MarksAt, Enabled}
+use Rattle.runner.specs.PrivateRows.{storing, storing_in, row, full, MarksAt}
 use Rattle.runner.specs.PrivateLoad.{odd_at, odd_in, is_open, open_in, is_caught, caught_in, cell_of, loaded_at, loaded_only, captured_only}
 use Rattle.runner.specs.PrivateSteps.{counted, Room, times}
 use Rattle.runner.proofs.Lanes.{storing_same, storing_then, storing_none, lane_storing, Turned, turn_lane, turn_more}
-use Rattle.runner.proofs.Filled.{Spread, put_holds, columns_more, operand, row_same}
+use Rattle.runner.proofs.Filled.{Spread, put_holds, operand, row_same}
 use Rattle.runner.proofs.Counts.{counted_same, counted_none, counted_twice, room_after}
 use Rattle.runner.proofs.Tallied.{row_marks, times_few}
 
@@ -39,21 +39,6 @@ full_bit : (t : Bool) → full t % 2 ≡ flag_of t
 unfolding full flag_of pick
 full_bit true = refl
 full_bit false = refl
-
--- the four lanes of a column have their cells by row 0's LaneConfig
-pub odd_column : (image odds : List ℕ) (a x y config j : ℕ) → j < 8 → x ≡ full (bit a 1) → y ≡ full (bit config 5) → config ≡ lane_in image j lane_config
-    → Spread (λ (p : ℕ). full (odd_at image a p)) 8 32 j odds
-    → Spread (λ (p : ℕ). full (odd_at image a p)) 8 32 (j + 1) (set (set (set (set odds j (bit_or x y)) (8 + j) (bit_or x y)) (16 + j) (bit_or x y)) (24 + j) (bit_or x y))
-odd_column image odds a x y config j l ex ey ec h =
-    columns_more _ j odds (bit_or x y) l h (mask j (omega arith)) (mask (8 + j) (omega arith)) (mask (16 + j) (omega arith)) (mask (24 + j) (omega arith))
-  where
-    mask : (p : ℕ) → p % 8 ≡ j → bit_or x y ≡ full (odd_at image a p)
-    mask p ep = rw (ex, ey, ec, ep) (full_or (bit a 1) (bit (lane_in image j lane_config) 5))
-
-pub open_mask : (image go : List ℕ) (n y config : ℕ) → Enabled go image → n < 32 → y ≡ full (not (bit config 1)) → config ≡ lane_in image n lane_config
-    → bit_and (get_or go n 0) y ≡ full (is_open (lane_in image n))
-open_mask image go n y config eg l ey ec =
-    rw (eg.mask_is n l, ey, ec) (full_and (enabled (lane_in image n)) (not (bit (lane_in image n lane_config) 1)))
 
 pub capture_mask : (image opens : List ℕ) (n vd y config : ℕ) (t : Bool) → opens ≡ open_in image → n < 32 → y ≡ full t → t ≡ captures vd config
     → config ≡ lane_in image n lane_config

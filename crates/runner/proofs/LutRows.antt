@@ -1,11 +1,9 @@
--- LUT: rows of floats, rows of words with their slots and masks, and the stores by rows, which are in each lane those of the rule. Assumes nothing.
-use Rattle.std.proofs.Common.{◌≡◌, ℕ, ◌+◌, ◌%◌, ◌<◌, ◌≤◌, Bool, true, false, ◌&&◌, ◌||◌, ltb, List, [], ◌∷◌, length, get_or, set, sym, refl, ap, ◌∙◌, arith, length-set, get_or-set_other, get_or-set_same, ltb-true, lt-ltb}
+-- LUT: rows of floats, and the stores by rows, which are in each lane those of the rule. Assumes nothing.
+use Rattle.std.proofs.Common.{◌≡◌, ℕ, ◌%◌, ◌<◌, ◌≤◌, Bool, true, false, ◌&&◌, ◌||◌, ltb, List, [], ◌∷◌, length, get_or, sym, refl, ap, ◌∙◌, arith, ltb-true, lt-ltb, Option, Some, None}
 use native.Mathlib.Decide.{ℕ_discrete}
 use mathlib.Core.Bool.{false≢true}
 use lib.Ieee.{Float, nan}
 use Rattle.lane.specs.declared.Insn.{Insn}
-use Rattle.lane.specs.declared.LutAnswer.{LutAnswer}
-use Rattle.lane.specs.declared.LutAnswer.TheVariants.{Number, Nothing}
 use Rattle.lane.specs.Words.{pick, has, bit, flag_of, Lane, Stores, upd, after, enabled, register_stores}
 use Rattle.lane.specs.Swap.{acts}
 use Rattle.lane.specs.Lut.{lut_answer, lut_stores, lut_register, lut_with, lut}
@@ -14,9 +12,8 @@ use Rattle.lane.proofs.Counted.{lut_count}
 use Rattle.lane.proofs.Stores.{upd_same, upd_other}
 use Rattle.runner.specs.Image.{lane_in}
 use Rattle.runner.specs.PrivateRows.{storing, storing_in, full}
-use Rattle.runner.specs.PrivateLut.{is_set, result_in, answered, stored_word, stored_slot, is_made, Answers}
+use Rattle.runner.specs.PrivateLut.{is_set, result_in, answered, stored_word, stored_slot, is_made}
 use Rattle.runner.proofs.Lanes.{same_lanes}
-use Rattle.runner.proofs.Filled.{none_below}
 
 -- ---- a row of floats that a loop fills: the first n are f's
 
@@ -24,65 +21,6 @@ pub record Floats (f : ℕ → Float) (n : ℕ) (xs : List Float) : Type 0 where
   pub within : n ≤ 32
   pub long : length xs ≡ 32
   pub made : (k : ℕ) → k < n → get_or xs k nan ≡ f k
-
-pub floats_start : (f : ℕ → Float) (xs : List Float) → length xs ≡ 32 → Floats f 0 xs
-floats_start f xs e = record { within = omega arith; long = e; made = λ k l. absurd (none_below k l) }
-
-pub floats_more : (f : ℕ → Float) (n : ℕ) (xs : List Float) (v : Float) → n < 32 → Floats f n xs → v ≡ f n → Floats f (n + 1) (set xs n v)
-floats_more f n xs v l h e =
-    record { within = omega arith; long = length-set xs n v ∙ h.long; made = λ k m. at k m (ℕ_discrete k n) }
-  where
-    at : (k : ℕ) → k < n + 1 → Dec (k ≡ n) → get_or (set xs n v) k nan ≡ f k
-    at k m (yes q) =
-        ap (λ (j : ℕ). get_or (set xs n v) j nan) q ∙ get_or-set_same xs n v nan (omega (arith, h.long)) ∙ e ∙ ap f (sym q)
-    at k m (no q) = get_or-set_other xs n k v nan q ∙ h.made k (omega arith)
-
--- ---- a row of words, a row of slots and a row of masks that a loop fills
-
-pub record Laid (made : ℕ → Stores) (old : ℕ → ℕ) (n : ℕ) (xs : List ℕ) : Type 0 where
-  pub within : n ≤ 32
-  pub long : length xs ≡ 96
-  pub answers : Answers made old n xs
-
-pub laid_start : (made : ℕ → Stores) (old : ℕ → ℕ) (xs : List ℕ) → length xs ≡ 96 → Laid made old 0 xs
-laid_start made old xs e = record { within = omega arith; long = e; answers = λ k l. absurd (none_below k l) }
-
-pub laid_more : (made : ℕ → Stores) (old : ℕ → ℕ) (n : ℕ) (xs : List ℕ) (v s m : ℕ) → n < 32 → Laid made old n xs
-    → v ≡ stored_word (made n) (old n) → s ≡ stored_slot (made n) → m ≡ full (is_made (made n))
-    → Laid made old (n + 1) (set (set (set xs n v) (32 + n) s) (64 + n) m)
-laid_more made old n xs v s m l h ev es em =
-    record {
-      within = omega arith;
-      long = simp length-set h.long;
-      answers = λ k j. (word k j (ℕ_discrete k n), (slot k j (ℕ_discrete k n), mark k j (ℕ_discrete k n)));
-    }
-  where
-    two : List ℕ
-    two = set (set xs n v) (32 + n) s
-
-    word : (k : ℕ) → k < n + 1 → Dec (k ≡ n) → get_or (set two (64 + n) m) k 0 ≡ stored_word (made k) (old k)
-    word k j (yes q) =
-        get_or-set_other two (64 + n) k m 0 (λ z. omega arith) ∙ get_or-set_other (set xs n v) (32 + n) k s 0 (λ z. omega arith)
-        ∙ ap (λ (j : ℕ). get_or (set xs n v) j 0) q ∙ get_or-set_same xs n v 0 (omega (arith, h.long)) ∙ ev ∙ ap (λ (j : ℕ). stored_word (made j) (old j)) (sym q)
-    word k j (no q) =
-        get_or-set_other two (64 + n) k m 0 (λ z. omega arith) ∙ get_or-set_other (set xs n v) (32 + n) k s 0 (λ z. omega arith) ∙ get_or-set_other xs n k v 0 q
-        ∙ (h.answers k (omega arith)).0
-
-    slot : (k : ℕ) → k < n + 1 → Dec (k ≡ n) → get_or (set two (64 + n) m) (32 + k) 0 ≡ stored_slot (made k)
-    slot k j (yes q) =
-        get_or-set_other two (64 + n) (32 + k) m 0 (λ z. omega arith) ∙ ap (λ (j : ℕ). get_or two (32 + j) 0) q
-        ∙ get_or-set_same (set xs n v) (32 + n) s 0 (simp length-set (omega (arith, h.long))) ∙ es ∙ ap (λ (j : ℕ). stored_slot (made j)) (sym q)
-    slot k j (no q) =
-        get_or-set_other two (64 + n) (32 + k) m 0 (λ z. omega arith) ∙ get_or-set_other (set xs n v) (32 + n) (32 + k) s 0 (λ z. q (omega arith))
-        ∙ get_or-set_other xs n (32 + k) v 0 (λ z. omega arith) ∙ (h.answers k (omega arith)).1.0
-
-    mark : (k : ℕ) → k < n + 1 → Dec (k ≡ n) → get_or (set two (64 + n) m) (64 + k) 0 ≡ full (is_made (made k))
-    mark k j (yes q) =
-        ap (λ (j : ℕ). get_or (set two (64 + n) m) (64 + j) 0) q ∙ get_or-set_same two (64 + n) m 0 (simp length-set (omega (arith, h.long))) ∙ em
-        ∙ ap (λ (j : ℕ). full (is_made (made j))) (sym q)
-    mark k j (no q) =
-        get_or-set_other two (64 + n) (64 + k) m 0 (λ z. q (omega arith)) ∙ get_or-set_other (set xs n v) (32 + n) (64 + k) s 0 (λ z. omega arith)
-        ∙ get_or-set_other xs n (64 + k) v 0 (λ z. omega arith) ∙ (h.answers k (omega arith)).1.1
 
 -- ---- masks
 
@@ -96,7 +34,7 @@ set_full true = refl
 set_full false = refl
 
 -- a lane's answer, from the words that it is made of and its mask of being enabled
-pub answer_by : (vd : ℕ) (own : Lane) (config r7 mask : ℕ) (x : Float) (a : LutAnswer) → config ≡ own 12 → r7 ≡ own 7 → mask ≡ full (enabled own)
+pub answer_by : (vd : ℕ) (own : Lane) (config r7 mask : ℕ) (x : Float) (a : Option (Float × ℕ)) → config ≡ own 12 → r7 ≡ own 7 → mask ≡ full (enabled own)
     → a ≡ lut_answer ((ltb vd 12 || bit config 4) && is_set mask) (r7 % 16) x
     → a ≡ lut_answer (acts vd own) (own 7 % 16) x
 answer_by vd own config r7 mask x a ec e7 em e =
@@ -121,14 +59,14 @@ own_again own v s = at (ℕ_discrete s v)
     at (no q) = upd_other own v (own v) s q
 
 -- the store to the slot of an answer, and the store to vd
-named_again : (m r3 : ℕ) (a : LutAnswer) (own : Lane) (s : ℕ)
+named_again : (m r3 : ℕ) (a : Option (Float × ℕ)) (own : Lane) (s : ℕ)
     → after ((stored_slot (lut_stores m r3 a), stored_word (lut_stores m r3 a) (own 0)) ∷ []) own s ≡ after (lut_stores m r3 a) own s
 unfolding after
-named_again m r3 (Number x r) own s = refl
-named_again m r3 Nothing own s = own_again own 0 s
+named_again m r3 (Some (x, r)) own s = refl
+named_again m r3 None own s = own_again own 0 s
 
 direct_again : (m r3 vd : ℕ) (x : Float) (t : Bool) (own : Lane) (s : ℕ)
-    → after ((vd, stored_word (lut_stores m r3 (pick t (Number x vd) Nothing)) (own vd)) ∷ []) own s ≡ after (lut_stores m r3 (pick t (Number x vd) Nothing)) own s
+    → after ((vd, stored_word (lut_stores m r3 (pick t (Some (x, vd)) None)) (own vd)) ∷ []) own s ≡ after (lut_stores m r3 (pick t (Some (x, vd)) None)) own s
 unfolding after pick
 direct_again m r3 vd x true own s = refl
 direct_again m r3 vd x false own s = own_again own vd s
@@ -142,7 +80,7 @@ slot_below m r3 acting r x = at (acting && ltb r 8) refl
     right true t e = e
     right false t e = absurd (false≢true e)
 
-    at : (b : Bool) → (acting && ltb r 8) ≡ b → stored_slot (lut_stores m r3 (pick b (Number x r) Nothing)) < 8
+    at : (b : Bool) → (acting && ltb r 8) ≡ b → stored_slot (lut_stores m r3 (pick b (Some (x, r)) None)) < 8
     at true e = ltb-true r 8 (right acting (ltb r 8) e)
     at false e = omega arith
 
@@ -163,7 +101,7 @@ module _ (i : Insn) (own : Lane) (s r3 old : ℕ) (x : Float) (e3 : r3 ≡ own 3
   direct_lane mask h l em eo =
       rw (e3, ex, em, eo, set_full)
       (direct_again i.md (own 3) i.vd (result_in own) (enabled own && ltb i.vd 8) own s
-      ∙ ap (λ (b : Bool). after (lut_stores i.md (own 3) (pick (((b || has (own 12) 16) && enabled own) && ltb i.vd 8) (Number (result_in own) i.vd) Nothing)) own s) (sym (lt-ltb i.vd 12 (omega arith)))
+      ∙ ap (λ (b : Bool). after (lut_stores i.md (own 3) (pick (((b || has (own 12) 16) && enabled own) && ltb i.vd 8) (Some ((result_in own), i.vd)) None)) own s) (sym (lt-ltb i.vd 12 (omega arith)))
       ∙ ap (λ (r : ℕ). after (lut_stores i.md (own 3) (lut_answer (acts i.vd own) r (result_in own))) own s) (sym (pick_false (has i.md 8) (own 7 % 16) i.vd h)))
 
 -- ---- the stores that are counted are those of the rule
@@ -172,7 +110,7 @@ made_is : (m r3 : ℕ) (acting : Bool) (r : ℕ) (x : Float) → is_made (answer
 unfolding lut_answer pick
 made_is m r3 acting r x = at (acting && ltb r 8)
   where
-    at : (b : Bool) → is_made (lut_stores m r3 (pick b (Number x r) Nothing)) ≡ b
+    at : (b : Bool) → is_made (lut_stores m r3 (pick b (Some (x, r)) None)) ≡ b
     at true = refl
     at false = refl
 

@@ -1,8 +1,7 @@
 -- Only IADD, LZ and EXEXP store to LaneFlag, and no operation to UseFlag: so the others leave the row of enabled lanes. Assumes nothing.
-use Rattle.std.proofs.Common.{◌≡◌, ℕ, ◌+◌, ◌-◌, ◌<◌, ◌≤◌, Bool, true, false, ◌&&◌, eqb, ltb, [], ◌∷◌, ◌++◌, refl, lt_of_lt_of_le, arith, ltb-true}
+use Rattle.std.proofs.Common.{◌≡◌, ℕ, ◌+◌, ◌-◌, ◌<◌, ◌≤◌, Bool, true, false, ◌&&◌, eqb, ltb, [], ◌∷◌, ◌++◌, refl, lt_of_lt_of_le, arith, ltb-true, Some, None}
 use lib.Ieee.{Float}
 use Rattle.lane.specs.declared.Insn.{Insn}
-use Rattle.lane.specs.declared.LutAnswer.TheVariants.{Number, Nothing}
 use Rattle.lane.specs.Words.{pick, bit, Lane, Stores, lane_config, lane_flag, use_flag, enabled}
 use Rattle.lane.specs.Load.{load_with, load, loadi, loads, captures}
 use Rattle.lane.specs.Swap.{acts, below, plain_swap, index_swap, index_of, swap_with, swap}
@@ -44,7 +43,7 @@ pub quiet_loadi : (i : Insn) (own : Lane) → Quiet (loadi i own)
 unfolding loadi
 quiet_loadi i own = quiet_when (ltb i.vd 8 && enabled own) _ (λ e. quiet_register i.vd 0 (vd_below i.vd 8 _ e))
 
-quiet_answer : (m r3 r : ℕ) (x : Float) (t : Bool) → (t ≡ true → r < 8) → Quiet (lut_stores m r3 (pick t (Number x r) Nothing))
+quiet_answer : (m r3 r : ℕ) (x : Float) (t : Bool) → (t ≡ true → r < 8) → Quiet (lut_stores m r3 (pick t (Some (x, r)) None))
 unfolding pick
 quiet_answer m r3 r x true h = quiet_register r 0 (h refl)
 quiet_answer m r3 r x false h = tt

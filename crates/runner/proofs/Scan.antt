@@ -1,11 +1,15 @@
 -- The scan over a list's instructions, turn by turn, and an instruction's six words. Assumes nothing.
-use Rattle.std.proofs.Common.{◌≡◌, ℕ, zero, suc, ◌+◌, ◌-◌, ◌*◌, ◌/◌, ◌%◌, ◌<◌, ◌≤◌, Bool, true, false, eqb, List, [], ◌∷◌, ◌++◌, length, get_or, drop, sym, refl, ap, ◌∙◌, add-zero, arith, drop-cons, get_or-append-add, eq-eqb, ne_eqb, eqb-true}
+use Rattle.std.proofs.Common.{◌≡◌, ℕ, zero, suc, ◌+◌, ◌-◌, ◌*◌, ◌/◌, ◌%◌, ◌<◌, ◌≤◌, Bool, true, false, eqb, List, [], ◌∷◌, ◌++◌, length, get_or, take, drop, sym, refl, ap, ◌∙◌, add-zero, arith, drop-cons, get_or-append-add, eq-eqb, ne_eqb, eqb-true}
 use lib.ListN.{get_or-append}
 use borrow.Author.Tests.{eqb-false}
 use Rattle.lane.specs.Words.{pick}
 use Rattle.lane.specs.Refusals.{instruction_answer}
 use Rattle.lane.proofs.Cases.{pick_true, pick_false}
-use Rattle.runner.specs.declared.Found.{Found}
+use Rattle.std.specs.Simd.{first_chunks}
+use native.Mathlib.Nat.{mul-zero, mul-suc, not-suc-le-zero, le_of_suc-le-suc}
+use lib.Seq.{drop-drop, get_or-drop, get_or-take}
+use Rattle.lane.specs.declared.Insn.{Insn}
+use Rattle.runner.specs.Checks.{Found}
 use Rattle.runner.specs.Checks.{insn_at, found, scan}
 
 one_less : (n k : ℕ) → k < n → n - k ≡ suc (n - (k + 1))
@@ -168,3 +172,37 @@ scan_grows list more n f l e =
         (ap (λ (x : Found). pick true (pick (eqb (instruction_answer true (insn_at more 0)) 0) x (found (instruction_answer true (insn_at more 0)) n)) f)
         (sym (e ∙ scan_none list 0 n (sym (ap (λ (x : Found). x.answer) e) ∙ eqb-true f.answer 0 q))))
     go false q = pick_false false _ _ refl ∙ sym (pick_false false _ _ refl)
+
+-- ---- a list in chunks of six
+
+-- chunk k of a list's m
+pub chunk_at : (n m k : ℕ) (xs : List ℕ) → k < m → get_or (first_chunks n m xs) k [] ≡ take n (drop (n * k) xs)
+chunk_at n zero k xs h = absurd (not-suc-le-zero h)
+chunk_at n (suc m) zero xs h = ap (λ (j : ℕ). take n (drop j xs)) (sym (mul-zero n))
+chunk_at n (suc m) (suc k) xs h =
+    let e : n + n * k ≡ n * suc k = omega (arith, mul-suc n k) in
+    chunk_at n m k (drop n xs) (le_of_suc-le-suc h) ∙ ap (take n) (drop-drop (n * k) n xs ∙ ap (λ (j : ℕ). drop j xs) e)
+
+-- the instruction of six words
+abbrev the_insn : List ℕ → Insn
+the_insn n = record { op = get_or n 0 0; imm = get_or n 1 0; vb = get_or n 2 0; vc = get_or n 3 0; vd = get_or n 4 0; md = get_or n 5 0 }
+
+-- a word of a chunk, and the instruction that it holds
+module _ (chunks : List (List ℕ)) (list : List ℕ) (k : ℕ) (e : chunks ≡ first_chunks 6 (length list / 6) list) (l : k < length list / 6) where
+  word_in : (j : ℕ) → j < 6 → get_or (get_or chunks k []) j 0 ≡ get_or list (6 * k + j) 0
+  word_in j h =
+      ap (λ (x : List (List ℕ)). get_or (get_or x k []) j 0) e ∙ ap (λ (x : List ℕ). get_or x j 0) (chunk_at 6 (length list / 6) k list l)
+      ∙ get_or-take 6 (drop (6 * k) list) j 0 h ∙ get_or-drop (6 * k) list j 0
+
+  pub insn_in : the_insn (get_or chunks k []) ≡ insn_at list k
+  unfolding insn_at
+  insn_in =
+      λ i.
+      record {
+        op = (word_in 0 (omega arith) ∙ ap (λ (x : ℕ). get_or list x 0) (add-zero (6 * k))) i;
+        imm = word_in 1 (omega arith) i;
+        vb = word_in 2 (omega arith) i;
+        vc = word_in 3 (omega arith) i;
+        vd = word_in 4 (omega arith) i;
+        md = word_in 5 (omega arith) i;
+      }

@@ -12,7 +12,7 @@ use Rattle.lane.specs.Rule.{lanewise, stores_of, cells_of}
 use Rattle.lane.proofs.Cases.{pick_true, pick_false}
 use Rattle.lane.proofs.Stores.{length_build}
 use Rattle.lane.proofs.Counted.{none_count}
-use Rattle.runner.specs.declared.Found.{Found}
+use Rattle.runner.specs.Checks.{Found}
 use Rattle.runner.specs.declared.Outcome.{Outcome}
 use Rattle.runner.specs.Image.{lane_in}
 use Rattle.runner.specs.Checks.{insn_at, count_of, list_limit, run_answer}
@@ -142,13 +142,6 @@ changes_not : (op m : ℕ) → changes_flags op m ≡ false
     → ((eqb op 6 && (not (has m 4) || has m 8)) ≡ false) × ((eqb op 12 ≡ false) × ((eqb op 13 && (has m 2 || has m 8)) ≡ false))
 changes_not op m h =
     let p = neither (eqb op 6 && (not (has m 4) || has m 8)) _ h in (p.0, neither (eqb op 12) (eqb op 13 && (has m 2 || has m 8)) p.1)
-
--- IADD or EXEXP that does not change them
-pub iadd_leaves : (op m : ℕ) → op ≡ 6 → changes_flags op m ≡ false → (not (has m 4) || has m 8) ≡ false
-iadd_leaves op m e h = sym (ap (λ (t : Bool). t && (not (has m 4) || has m 8)) (eq-eqb op 6 e)) ∙ (changes_not op m h).0
-
-pub exexp_leaves : (op m : ℕ) → op ≡ 13 → changes_flags op m ≡ false → (has m 2 || has m 8) ≡ false
-exexp_leaves op m e h = sym (ap (λ (t : Bool). t && (has m 2 || has m 8)) (eq-eqb op 13 e)) ∙ (changes_not op m h).1.1
 
 -- an operation that may is one of the three
 pub changes_sets : (op m : ℕ) → changes_flags op m ≡ true → sets_flags op ≡ true

@@ -1,6 +1,6 @@
 -- STORE over all lanes: a pair of cells as a word, and the halves that the masks open. Assumes nothing.
 use Rattle.std.proofs.Common.{◌≡◌, ℕ, ◌+◌, ◌-◌, ◌*◌, ◌/◌, ◌%◌, ◌^◌, ◌<◌, Bool, true, false, eqb, List, length, get_or, set, refl, ap, ◌∙◌, add-zero, mod-eq_of_lt, add_comm, arith, ne_eqb}
-use lib.Bits.{bit_and, bit_xor, and_mask, and_high, and_zero_l, and_zero_r, and_le_l, and_le_r}
+use lib.Bits.{bit_and, bit_xor, and_mask, and_high, and_zero_l, and_zero_r}
 use Rattle.lane.specs.declared.Insn.{Insn}
 use Rattle.lane.specs.Words.{pick, bit, reg, enabled}
 use Rattle.lane.specs.Load.{with_high, with_low, place_of}
@@ -52,11 +52,6 @@ pub opened_is : (go odd cell old : ℕ) → cell < 65536 → old < 2 ^ 32 → (s
     → bit_and old (0xFFFFFFFF - bit_and go (bit_xor odd 0xFFFF)) + bit_and (cell * 0x10001) (bit_and go (bit_xor odd 0xFFFF))
     ≡ pick s (pick t (with_high old cell) (with_low old cell)) old
 opened_is go odd cell old h k s t eg eo = rw (eg, eo) (halves s t cell old h k)
-
--- and its sum fits, whatever the masks
-pub opened_fits : (old new go odd : ℕ) → go < 2 ^ 32 → bit_and old (0xFFFFFFFF - bit_and go odd) + bit_and new (bit_and go odd) < 2 ^ 32
-opened_fits old new go odd h =
-    omega (arith, and_le_r old (0xFFFFFFFF - bit_and go odd), and_le_r new (bit_and go odd), and_le_l go odd)
 
 -- the pair afterwards, as two cells
 after_pair : (s t : Bool) (cell even odd both : ℕ) → even < 65536 → odd < 65536 → cell < 65536

@@ -161,9 +161,9 @@ none_more seen n words a b c l e h = record { zeros = λ z k m. by k m (no_or se
         ∙ get_or-set_other (set words (32 + n) a) (64 + n) (96 + k) b 0 (λ r. omega arith)
         ∙ get_or-set_other words (32 + n) (96 + k) a 0 (λ r. omega arith) ∙ h.zeros both.0 k (omega arith)
 
-pub none_end : (seen n : ℕ) (words : List ℕ) → 32 ≤ n → NoneSeen seen n words → seen ≡ 0 → NoIndex words
+pub none_end : (seen n : ℕ) (words : List ℕ) → 32 ≤ n → NoneSeen seen n words → not (eqb seen 0) ≡ false → NoIndex words
 unfolding NoIndex
-none_end seen n words l h z k m = h.zeros z k (omega arith)
+none_end seen n words l h z k m = h.zeros (grind arith) k (omega arith)
 
 -- ---- stores under masks
 
@@ -281,9 +281,6 @@ module _ (image c d t : List ℕ) where
       mask_rows (λ L. enabled (lane_in image L)) (λ L. swaps_by always free mask L (get_or c L 0) (get_or d L 0) (lane_in image L)) (λ L. bit (lane_in image L 12) 2)
 
   -- under mod 0 no mask is asked
-  pub rows_always : (a f : Bool) (m : ℕ) → true ≡ a → true ≡ f → t ≡ rows_by true true 0 → t ≡ rows_by a f m
-  unfolding swaps
-  rows_always a f m p q e = e ∙ ap (λ (b : Bool). rows_by true b m) q ∙ ap (λ (b : Bool). rows_by b f m) p
 
   pub rows_by_lem : (a b f g : Bool) (m k : ℕ) → a ≡ b → f ≡ g → m ≡ k → t ≡ rows_by a f m → t ≡ rows_by b g k
   rows_by_lem a b f g m k p q r e =
@@ -536,14 +533,14 @@ unfolding NoIndex exchanged pick
 exchange_none image t p q e h =
     sym (storing_none image _ e (λ L l. ap (λ (x : ℕ). exchanged p q (eqb x 0xFFFFFFFF) (eqb x 0xFFFFFFFF) (lane_in image L)) (h L l)))
 
-pub exchange_skipped : (image t : List ℕ) (p q seen : ℕ) → length image ≡ 768 → (not (eqb p q) && not (eqb seen 0)) ≡ false → (seen ≡ 0 → NoIndex t)
+pub exchange_skipped : (image t : List ℕ) (p q : ℕ) (seen : Bool) → length image ≡ 768 → (not (eqb p q) && seen) ≡ false → (seen ≡ false → NoIndex t)
     → image ≡ storing image (λ L. exchanged p q (marked t (96 + L)) (marked t (96 + L)) (lane_in image L))
-exchange_skipped image t p q seen e h k = by (ℕ_discrete p q) (ℕ_discrete seen 0)
+exchange_skipped image t p q false e h k = exchange_none image t p q e (k refl)
+exchange_skipped image t p q true e h k = by (ℕ_discrete p q)
   where
-    by : Dec (p ≡ q) → Dec (seen ≡ 0) → image ≡ storing image (λ L. exchanged p q (marked t (96 + L)) (marked t (96 + L)) (lane_in image L))
-    by (yes r) s = exchange_same image p q (λ L. marked t (96 + L)) e r
-    by (no r) (yes s) = exchange_none image t p q e (k s)
-    by (no r) (no s) = absurd (false≢true (sym h ∙ simp (ne_eqb p q r, ne_eqb seen 0 s)))
+    by : Dec (p ≡ q) → image ≡ storing image (λ L. exchanged p q (marked t (96 + L)) (marked t (96 + L)) (lane_in image L))
+    by (yes r) = exchange_same image p q (λ L. marked t (96 + L)) e r
+    by (no r) = absurd (false≢true (sym h ∙ simp (ne_eqb p q r)))
 
 -- ---- the counts, one after the other
 

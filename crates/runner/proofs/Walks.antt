@@ -1,7 +1,10 @@
 -- A walk's steps: one instruction as a list of its own, an entry put together and put into its store, and what an entry brings back. Assumes nothing.
-use Rattle.std.proofs.Common.{◌≡◌, ℕ, ◌+◌, ◌-◌, ◌*◌, ◌/◌, ◌<◌, ◌≤◌, Bool, true, ◌&&◌, eqb, ltb, leb, List, [], ◌∷◌, ◌++◌, length, get_or, take, drop, set, replicate, sym, refl, ap, ◌∙◌, append_assoc, add-zero, zero-add, add-one, arith, length-drop, length-take-le, get_or-drop, take_all, get_or-take, drop-drop, ltb-true, lt-ltb, eq-eqb, ne_eqb, leb-true}
+use Rattle.std.proofs.Common.{◌≡◌, ℕ, ◌+◌, ◌-◌, ◌*◌, ◌/◌, ◌<◌, ◌≤◌, Bool, true, ◌&&◌, eqb, ltb, leb, List, [], ◌∷◌, ◌++◌, length, get_or, take, drop, replicate, sym, refl, ap, ◌∙◌, append_assoc, add-zero, zero-add, append-nil, arith, length-append, length-drop, length-take-le, get_or-drop, take_all, get_or-take, drop-drop, ltb-true, lt-ltb, eq-eqb, ne_eqb, leb-true}
 use lib.ListN.{get_or-replicate}
-use lib.Seq.{paste, paste-suc, take-paste, length-paste, take-length}
+use lib.Seq.{paste, take-paste, length-paste, take-length, take_at}
+use borrow.Rule.Slice.PartMut.{put_mid, same_len_mid, mid_len}
+use Rattle.std.proofs.lemmas.Slice.{take-put_mid}
+use Rattle.std.proofs.lemmas.List.{drop_all}
 use Rattle.lane.specs.declared.Settings.{Settings}
 use Rattle.lane.specs.declared.Insn.{Insn}
 use Rattle.lane.specs.Words.{pick, build}
@@ -190,20 +193,29 @@ three_puts e e₁ e₂ e₃ a b c h p q r =
         ap (take (length a + length b)) q ∙ take-paste e₁ (length a) b (length b) (omega (arith, long₁)) (omega arith)
         ∙ ap (λ (x : List ℕ). x ++ take (length b) b) (put_front e e₁ a (omega arith) p) ∙ ap (λ (x : List ℕ). a ++ x) (take-length b)
 
--- words put one after the other
-module _ (to now : List ℕ) (at : ℕ) (words : List ℕ) (n : ℕ) where
-  pub put_long : at + length words ≤ length to → n ≤ length words → now ≡ paste to at words n → length now ≡ length to
-  put_long fits h e = ap length e ∙ length-paste to at words n (omega arith) h
+-- what three copies, one after the other, make of an entry
+pub three_copies : (e image pair cells : List ℕ) → length e ≡ 802 → length image ≡ 768 → length pair ≡ 2 → length cells ≡ 32
+    → put_mid 770 32 (put_mid 768 2 (image ++ drop 768 e) pair) cells ≡ image ++ (pair ++ cells)
+three_copies e image pair cells he hi hp hc =
+    ap (λ (x : List ℕ). x ++ (cells ++ drop 32 (drop 770 second))) front
+    ∙ ap (λ (x : List ℕ). (image ++ pair) ++ (cells ++ x)) (drop_all 32 (drop 770 second) (omega (arith, long, length-drop 770 second)))
+    ∙ ap (λ (x : List ℕ). (image ++ pair) ++ x) (append-nil cells)
+    ∙ append_assoc image pair cells
+  where
+    first : List ℕ
+    first = image ++ drop 768 e
 
-  pub put_more : at + length words ≤ length to → n < length words → now ≡ paste to at words n → set now (at + n) (get_or words n 0) ≡ paste to at words (n + 1)
-  put_more fits h e =
-      ap (λ (x : List ℕ). set x (at + n) (get_or words n 0)) e ∙ paste-suc to at words n 0 (omega arith) h ∙ ap (paste to at words) (sym (add-one n))
+    second : List ℕ
+    second = put_mid 768 2 first pair
 
-  pub put_end : n ≤ length words → length words ≤ n → now ≡ paste to at words n → now ≡ paste to at words (length words)
-  put_end h k e = e ∙ ap (paste to at words) (same n (length words) h k)
-    where
-      same : (a b : ℕ) → a ≤ b → b ≤ a → a ≡ b
-      same a b h k = omega arith
+    wide : length first ≡ 802
+    wide = omega (arith, length-append image (drop 768 e), length-drop 768 e)
+
+    long : length second ≡ 802
+    long = same_len_mid 768 2 first pair (hp ∙ sym (mid_len 768 770 first (omega (arith, wide)))) ∙ wide
+
+    front : take 770 second ≡ image ++ pair
+    front = take-put_mid 768 2 first pair 770 (omega arith) (omega (arith, wide)) ∙ ap (λ (x : List ℕ). x ++ pair) (take_at image (drop 768 e) 768 hi)
 
 -- ---- the cells of an entry
 
@@ -249,22 +261,14 @@ cells_back dst x entry image words odds a ei ea ew eo e =
 
 -- ---- an entry put together, and a step
 
-pub entry_kept : (e e₁ e₂ e₃ image dst cells : List ℕ) (i : Insn) (a cursor : ℕ) → length e ≡ 802 → length image ≡ 768
+pub entry_kept : (e image₁ pair cells image dst : List ℕ) (i : Insn) (a cursor : ℕ) → length e ≡ 802 → length image ≡ 768
+    → image₁ ≡ image
+    → pair ≡ cursor ∷ (a ∷ [])
     → cells ≡ Walk.kept_cells i.op a image dst
-    → e₁ ≡ paste e 0 image (length image)
-    → e₂ ≡ paste e₁ 768 (cursor ∷ (a ∷ [])) 2
-    → e₃ ≡ paste e₂ 770 cells (length cells)
-    → e₃ ≡ Walk.entry_at i a (starting cursor image dst)
+    → put_mid 770 32 (put_mid 768 2 (image₁ ++ drop 768 e) pair) cells ≡ Walk.entry_at i a (starting cursor image dst)
 unfolding Walk.entry_at Walk.kept_cells
-entry_kept e e₁ e₂ e₃ image dst cells i a cursor long wide ec p q r =
-    three_puts e e₁ e₂ e₃ image (cursor ∷ (a ∷ [])) cells (omega (arith, row_long)) p
-    (q ∙ ap (λ (n : ℕ). paste e₁ n (cursor ∷ (a ∷ [])) 2) (sym wide))
-    (r ∙ ap (λ (n : ℕ). paste e₂ (n + 2) cells (length cells)) (sym wide))
-    ∙ append_assoc image (cursor ∷ (a ∷ [])) cells
-    ∙ ap (λ (x : List ℕ). image ++ (cursor ∷ (a ∷ x))) ec
-  where
-    row_long : length cells ≡ 32
-    row_long = ap length ec ∙ length_build 32 _
+entry_kept e image₁ pair cells image dst i a cursor long wide p q r =
+    three_copies e image₁ pair cells long (ap length p ∙ wide) (ap length q) (ap length r ∙ length_build 32 _) ∙ cc
 
 -- a machine, by its parts
 pub machine_is : (m : Machine) (cursor : ℕ) (image dst : List ℕ) → cursor ≡ m.cursor → image ≡ m.image → dst ≡ m.dst → starting cursor image dst ≡ m
@@ -320,19 +324,3 @@ pub back_made : (list store image dst x y : List ℕ) (n cursor last : ℕ)
     ≡ Walk.backed list (Walk.standing (record { at = n; cursor = cursor }) image dst store)
 unfolding Walk.backed
 back_made list store image dst x y n cursor last e = standing_is _ _ (n - 1) store store e refl
-
--- words put over as many
-put_whole : (to x words : List ℕ) → length words ≡ length to → x ≡ paste to 0 words (length words) → x ≡ words
-put_whole to x words h e =
-    sym (take_all (length words) x (omega (arith, h, ap length e, length-paste to 0 words (length words) (omega (arith, h)) (omega arith))))
-    ∙ put_front to x words (omega (arith, h)) e
-
--- a whole image brought back, by a local array
-pub image_back : (zeros before image entry x : List ℕ) → length zeros ≡ 768 → length image ≡ 768 → length entry ≡ 802
-    → before ≡ paste zeros 0 (take 768 (drop 0 entry)) (length (take 768 (drop 0 entry)))
-    → x ≡ paste image 0 before (length before)
-    → x ≡ Walk.image_of entry
-image_back zeros before image entry x hz hi he p q =
-    let long = length-take-le 768 entry (omega arith) in
-    let held : before ≡ take 768 entry = put_whole zeros before (take 768 entry) (long ∙ sym hz) p in
-    put_whole image x before (ap length held ∙ long ∙ sym hi) q ∙ held

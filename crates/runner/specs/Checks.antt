@@ -1,10 +1,10 @@
 -- Document 01, "The clerk's numbers": the checks of a run, and of a list alone, in their order.
-use Rattle.std.specs.Prelude.{ℕ, zero, suc, ◌+◌, ◌*◌, ◌/◌, ◌%◌, true, List, length, ◌==◌, nat_le, slice_index}
+use Rattle.std.specs.Prelude.{ℕ, zero, suc, ◌+◌, ◌*◌, ◌/◌, ◌%◌, true, List, length, ◌==◌, nat_le, slice_index, Result, Ok, Err, ⊤}
 use Rattle.lane.specs.declared.Settings.{Settings}
 use Rattle.lane.specs.declared.Insn.{Insn}
 use Rattle.lane.specs.Words.{pick}
-use Rattle.lane.specs.Refusals.{pass, settings_good, instruction_answer}
-use Rattle.runner.specs.declared.Found.{Found}
+use Rattle.lane.specs.Refusals.{number, pass, settings_good, instruction_answer}
+use Rattle.runner.specs.declared.Refused.{Refused}
 use Rattle.runner.specs.Image.{image_good}
 
 -- "The list holds six 32-bit numbers an instruction: op, imm, vb, vc, vd, mod."
@@ -24,8 +24,17 @@ abbrev pub count_of : List ℕ → ℕ
 count_of list = length list / 6
 
 -- A number of the clerk's with its place: "as place the instruction's index from 0 (for 7 to 9; else 0 ..)".
+pub record Found : Type 0 where
+  pub answer : ℕ
+  pub place : ℕ
+
 abbrev pub found : ℕ → ℕ → Found
 found n p = record { answer = n; place = p }
+
+-- What a check found: 0 where nothing is refused.
+abbrev pub found_by : Result ⊤ Refused → Found
+found_by (Ok _) = found 0 0
+found_by (Err r) = found (number r.why) r.place
 
 -- "the instructions in turn, 7 before 8 before 9 within one": the first refused of the n instructions from k on.
 unfoldable pub scan : List ℕ → ℕ → ℕ → Found

@@ -1,15 +1,11 @@
 -- Pass over this page with document 01 in the other hand: it is the vocabulary of private functions, and no promise rests on it. It has
 -- CONFIG by rows: the columns that it reaches, their values, and the word that a lane is left with.
-use Rattle.std.specs.Prelude.{ℕ, ◌-◌, ◌%◌, Bool, not, ◌&&◌, List, ◌==◌, nat_le, nat_lt}
+use Rattle.std.specs.Prelude.{ℕ, ◌-◌, Bool, not, ◌&&◌, List, ◌==◌, nat_le, nat_lt}
 use Rattle.lane.specs.declared.Insn.{Insn}
 use Rattle.lane.specs.Words.{pick, Lane, constant_slot, lane_config, lane_flag, use_flag, template, sequence, misc}
 use Rattle.lane.specs.Config.{passed_over, value_of, misc_after, lane_config_after, constant_after}
 use Rattle.runner.specs.Image.{lane_in}
-use Rattle.runner.specs.PrivateRows.{row, full}
-
--- A row that holds the same word in the four lanes of a column.
-unfoldable pub columns : (ℕ → ℕ) → List ℕ
-columns f = row (λ L. f (L % 8))
+use Rattle.runner.specs.PrivateRows.{full, columns}
 
 -- Whether CONFIG reaches column j, `head` being its lane in row 0.
 unfoldable pub reached : Insn → Lane → ℕ → Bool

@@ -1,10 +1,11 @@
 -- Pass over this page with document 01 in the other hand: it is the vocabulary of private functions, and no promise rests on it. It has
 -- LUT by rows: rows of floats, and the one store of a lane.
-use Rattle.std.specs.Prelude.{◌≡◌, ℕ, ◌+◌, ◌<◌, Bool, true, false, not, List, [], ◌∷◌, ◌==◌, slice_index, slice_index_or, Float}
+use Rattle.std.specs.Prelude.{◌≡◌, ℕ, ◌<◌, Bool, true, false, not, List, [], ◌∷◌, ◌==◌, slice_index_or, Float}
 use Rattle.std.specs.Float.{nan}
 use Rattle.lane.specs.Words.{Lane, Stores}
 use Rattle.lane.specs.Lut.{lut_stores, lut_answer, result_of}
-use Rattle.runner.specs.PrivateRows.{full}
+use Rattle.runner.specs.declared.lut.Answers.{Answers}
+use Rattle.runner.specs.PrivateRows.{full, row}
 
 -- A row of floats has f's number in each lane.
 abbrev pub Numbers : (ℕ → Float) → List Float → Type 0
@@ -37,8 +38,8 @@ abbrev pub is_made : Stores → Bool
 is_made [] = false
 is_made (s ∷ rest) = true
 
--- The words that the first n lanes are left with, `old` where there is none, 32 places on their slots, and 32 further on the masks of whether there is one.
-abbrev pub Answers : (ℕ → Stores) → (ℕ → ℕ) → ℕ → List ℕ → Type 0
-Answers made old n xs =
-    (L : ℕ) → L < n
-    → (slice_index xs L ≡ stored_word (made L) (old L)) × ((slice_index xs (32 + L) ≡ stored_slot (made L)) × (slice_index xs (64 + L) ≡ full (is_made (made L))))
+-- The answers of all lanes: the words that they are left with, `old` where there is none, their slots, and the masks of whether there is one.
+pub record Answered (made : ℕ → Stores) (old : ℕ → ℕ) (answers : Answers) : Type 0 where
+  pub words_are : answers.words ≡ row (λ L. stored_word (made L) (old L))
+  pub slots_are : answers.slots ≡ row (λ L. stored_slot (made L))
+  pub marks_are : answers.marks ≡ row (λ L. full (is_made (made L)))

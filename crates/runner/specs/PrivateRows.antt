@@ -16,6 +16,10 @@ storing_in image L made = storing image (λ M. pick (M == L) made [])
 unfoldable pub row : (ℕ → ℕ) → List ℕ
 row f = build 32 f
 
+-- A row that holds the same word in the four lanes of a column.
+unfoldable pub columns : (ℕ → ℕ) → List ℕ
+columns f = row (λ L. f (L % 8))
+
 -- A test as a mask: a word of ones, or of zeros.
 unfoldable pub full : Bool → ℕ
 full t = pick t 0xFFFFFFFF 0

@@ -7,7 +7,7 @@ use Rattle.lane.specs.declared.Cells.{Cells}
 use Rattle.lane.specs.Words.{pick, bit, flag_of, Lane, Stores, lane_config, build, after, register_stores}
 use Rattle.lane.specs.Load.{address, stride, next_cursor, place_of, is_met, owner_of}
 use Rattle.lane.specs.Rule.{stores_of, cells_of, is_tied}
-use Rattle.runner.specs.declared.Found.{Found}
+use Rattle.runner.specs.Checks.{Found}
 use Rattle.runner.specs.declared.Outcome.{Outcome}
 use Rattle.runner.specs.Image.{lane_in, of_lanes, head_of}
 use Rattle.runner.specs.Checks.{insn_at, count_of, run_answer}

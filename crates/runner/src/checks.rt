@@ -1,19 +1,18 @@
 // The checks, all tried before the first step.
 ghost use Rattle.std.specs.Prelude.{◌≡◌, ◌*◌, ◌%◌, ◌<◌, ◌≤◌, true, length, ◌==◌};
-ghost use Rattle.lane.specs.Refusals.{instruction_answer};
+ghost use Rattle.lane.specs.Refusals.{answer_of, instruction_answer};
 ghost use Rattle.runner.specs.Image as Image;
 ghost use Rattle.runner.specs.Checks as Checks;
 ghost use Rattle.runner.specs.PrivateQuick as Quick;
 
 use crate::rows::word_at;
-use crate::{Found, insn_at};
+use crate::{Image, Refused};
 use lane::refuse::{instruction_answer, settings_good, well_formed};
 use lane::words::{LANE_CONFIG, LANE_FLAG, MISC, USE_FLAG, keep};
-use lane::{Insn, Settings};
+use lane::{Insn, Refusal, Settings, op};
 
-// Whether an image of 768 words is well formed: a bit too high in one lane's word is too high in the union of all lanes'.
-fn image_good(image: &[u32]) -> bool
-    requires { length image.now ≡ 768 }
+// Whether an image is well formed: a bit too high in one lane's word is too high in the union of all lanes'.
+fn image_good(image: &Image) -> bool
     ensures { result ≡ Image.image_good image.now }
 {
     let mut config: u32 = 0;
@@ -59,27 +58,28 @@ fn over_row(imm: u32, vb: u32, vc: u32, vd: u32, mods: u32) -> Over
 }
 
 // The table for op 0, which is none, to 31, of which those past 16 are none either. Every number has its row, so that it is a table once compiled.
+#[tactic(auto, unfolding(crate::specs::PrivateQuick::over_of))]
 fn over_of(op: u32) -> Over
     ensures { result ≡ Quick.over_of (op % 32) }
 {
     let k = op % 32;
     match k {
-        1 => over_row(1023, 3, 0, 15, 0xEBE7EBE7),
-        2 => over_row(65535, 0, 0, 15, 0x0500),
-        3 => over_row(0, 0, 0, 15, 0x1111),
-        4 => over_row(0, 0, 15, 15, 0xFFFF),
-        5 => over_row(65535, 0, 0, 15, 0xFFFF),
-        6 => over_row(4095, 0, 15, 15, 0xFFFF),
-        7 => over_row(0, 0, 15, 15, 0x0003),
-        8 => over_row(0, 15, 15, 15, 0x20003),
-        9 => over_row(0, 15, 15, 15, 0x20003),
-        10 => over_row(0, 0, 15, 15, 0x0001),
-        11 => over_row(0, 0, 15, 15, 0x0001),
-        12 => over_row(0, 0, 15, 15, 0x5555),
-        13 => over_row(0, 0, 15, 15, 0x0F0F),
-        14 => over_row(0, 0, 15, 15, 0x0003),
-        15 => over_row(0, 0, 0, 0, 0x0001),
-        16 => over_row(1023, 3, 0, 15, 0x02C402C4),
+        op::LOAD => over_row(1023, 3, 0, 15, 0xEBE7EBE7),
+        op::LOADI => over_row(65535, 0, 0, 15, 0x0500),
+        op::LUT => over_row(0, 0, 0, 15, 0x1111),
+        op::SWAP => over_row(0, 0, 15, 15, 0xFFFF),
+        op::CONFIG => over_row(65535, 0, 0, 15, 0xFFFF),
+        op::IADD => over_row(4095, 0, 15, 15, 0xFFFF),
+        op::ABS => over_row(0, 0, 15, 15, 0x0003),
+        op::AND => over_row(0, 15, 15, 15, 0x20003),
+        op::OR => over_row(0, 15, 15, 15, 0x20003),
+        op::XOR => over_row(0, 0, 15, 15, 0x0001),
+        op::NOT => over_row(0, 0, 15, 15, 0x0001),
+        op::LZ => over_row(0, 0, 15, 15, 0x5555),
+        op::EXEXP => over_row(0, 0, 15, 15, 0x0F0F),
+        op::EXMAN => over_row(0, 0, 15, 15, 0x0003),
+        op::NOP => over_row(0, 0, 0, 0, 0x0001),
+        op::STORE => over_row(1023, 3, 0, 15, 0x02C402C4),
         17 => over_row(0, 0, 0, 0, 0),
         18 => over_row(0, 0, 0, 0, 0),
         19 => over_row(0, 0, 0, 0, 0),
@@ -117,98 +117,90 @@ pub fn accepts(i: Insn) -> bool
     (bad == 0) & ((o.mods >> mod_place(i.md, i.vb)) % 2 == 1)
 }
 
-// 7, 8, 9 or 0 for an instruction. All but the refused are accepted, and that is quickly seen.
-fn answer_of(i: Insn) -> u32
-    ensures { result ≡ instruction_answer true i }
+// 7, 8 or 9 for an instruction. All but the refused are accepted, and that is quickly seen.
+fn quick_answer(i: Insn) -> Result<(), Refusal>
+    ensures { answer_of result ≡ instruction_answer true i }
 {
     if accepts(i) {
-        return 0;
+        return Ok(());
     }
     instruction_answer(true, i)
 }
 
-// The first refused instruction.
-fn scanned(list: &[u32]) -> Found
+// 7, 8 or 9 for the first refused instruction.
+fn scanned(list: &[u32]) -> Result<(), Refused>
     requires { length list.now ≤ 6 * Checks.list_limit }
-    ensures { result ≡ Checks.scanned list.now }
+    ensures { Checks.found_by result ≡ Checks.scanned list.now }
 {
-    let count = list.len() / 6;
-    for k in 0..count {
-        let answer = answer_of(insn_at(list, k));
-        if answer != 0 {
-            return Found {
-                answer,
+    for (k, insn) in list.as_chunks::<6>().0.iter().enumerate() {
+        if let Err(why) = quick_answer(Insn::from(*insn)) {
+            return Err(Refused {
+                why,
                 place: k as u32,
-            };
+            });
         }
     }
-    Found {
-        answer: 0,
-        place: 0,
-    }
+    Ok(())
 }
 
 // The most instructions a list may hold: said here, and nowhere else.
 pub const LIST_LIMIT: usize = 16384;
 
-// 3, 4 or 5, or 0 where none is given.
-fn given_answer(s: Settings, list: &[u32]) -> u32
-    ensures { result ≡ Checks.given_answer s list.now }
+// 3, 4 and 5, in that order.
+fn given_answer(s: Settings, list: &[u32]) -> Result<(), Refusal>
+    ensures { answer_of result ≡ Checks.given_answer s list.now }
 {
-    if settings_good(s) {
-        if list.len() % 6 != 0 {
-            return 4;
-        }
-        if LIST_LIMIT < list.len() / 6 {
-            return 5;
-        }
-        return 0;
+    if !settings_good(s) {
+        return Err(Refusal::Setting);
     }
-    3
+    if list.len() % 6 != 0 {
+        return Err(Refusal::ListShape);
+    }
+    if LIST_LIMIT < list.len() / 6 {
+        return Err(Refusal::ListLimit);
+    }
+    Ok(())
 }
 
-// 1 to 6, in that order, or 0 where none is given.
-pub(crate) fn first_answer(s: Settings, image: &[u32], dst: &[u16], list: &[u32]) -> u32
-    ensures { result ≡ Checks.first_answer s image.now dst.now list.now }
+// 1 to 6, in that order.
+pub(crate) fn first_answer(
+    s: Settings,
+    image: &[u32],
+    dst: &[u16],
+    list: &[u32],
+) -> Result<(), Refusal>
+    ensures { answer_of result ≡ Checks.first_answer s image.now dst.now list.now }
 {
-    let is_cut = image.len() != 768;
-    if is_cut {
-        return 1;
-    }
+    let Some(image) = image.as_array::<768>() else {
+        return Err(Refusal::ImageSize);
+    };
     if dst.len() != 16384 {
-        return 2;
+        return Err(Refusal::DstSize);
     }
-    let given = given_answer(s, list);
-    if given == 0 {
-        if image_good(image) {
-            return 0;
-        }
-        return 6;
+    given_answer(s, list)?;
+    if !image_good(image) {
+        return Err(Refusal::ImageForm);
     }
-    given
-}
-
-// The instructions in turn, where no number was given before them.
-fn then_scanned(answer: u32, list: &[u32]) -> Found
-    requires { answer ≡ 0 → length list.now ≤ 6 * Checks.list_limit }
-    ensures { result ≡ Checks.then_scanned answer list.now }
-{
-    if answer == 0 {
-        return scanned(list);
-    }
-    Found { answer, place: 0 }
+    Ok(())
 }
 
 // The checks of a list alone: 3, 4, 5, then 7, 8 and 9.
-pub fn list_answer(s: Settings, list: &[u32]) -> Found
-    ensures { result ≡ Checks.list_answer s list.now }
+pub fn list_answer(s: Settings, list: &[u32]) -> Result<(), Refused>
+    ensures { Checks.found_by result ≡ Checks.list_answer s list.now }
 {
-    then_scanned(given_answer(s, list), list)
+    given_answer(s, list)?;
+    scanned(list)
 }
 
 // The checks of a run: 1 to 6, then 7, 8 and 9.
-pub(crate) fn run_answer(s: Settings, image: &[u32], dst: &[u16], list: &[u32]) -> Found
-    ensures { result ≡ Checks.run_answer s image.now dst.now list.now }
+pub(crate) fn run_answer(
+    s: Settings,
+    image: &[u32],
+    dst: &[u16],
+    list: &[u32],
+) -> Result<(), Refused>
+    ensures { Checks.found_by result ≡ Checks.run_answer s image.now dst.now list.now }
 {
-    then_scanned(first_answer(s, image, dst, list), list)
+    first_answer(s, image, dst, list)?;
+    scanned(list)
 }

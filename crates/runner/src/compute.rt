@@ -7,10 +7,12 @@ ghost use Rattle.runner.specs.Image.{lane_in};
 ghost use Rattle.runner.specs.PrivateRows as Rows;
 ghost use Rattle.runner.specs.PrivateCompute as Compute;
 
-use crate::rows::{full, put, source, word_at};
-use lane::Insn;
+use crate::Image;
+use crate::rows::{full, put, row, source, word_at};
+use crate::tables::Tables;
 use lane::compute::{exexp_word, flag_after, iadd_word, value_word};
 use lane::words::{LANE_FLAG, USE_FLAG, enabled, keep};
+use lane::{Insn, op};
 use std::num::wrapping_add_u32;
 
 // What vc is cut by before LZ counts: mod's 4 clears the top bit.
@@ -40,16 +42,18 @@ fn word_of(op: u32, i: Insn, b: u32, c: u32, d: u32) -> u32
     ensures { result ≡ Compute.word_of op i b c d }
 {
     match op {
-        6 => iadd_word(i.md, i.imm, c, d),
-        12 => lz_from(i.md, b, c),
-        13 => exexp_word(i.md, c),
+        op::IADD => iadd_word(i.md, i.imm, c, d),
+        op::LZ => lz_from(i.md, b, c),
+        op::EXEXP => exexp_word(i.md, c),
         _ => value_word(op, i.md, b, c, d),
     }
 }
 
 // The word stored to vd in lane `n`, whose mask is `mask`.
-fn word_put(image: &mut [u32], n: usize, op: u32, i: Insn, b: u32, c: u32, mask: u32)
-    requires { (length image.old ≡ 768) × ((n < 32) × ((i.vd < 8) × (mask ≡ Rows.full (enabled (lane_in image.old n))))) }
+fn word_put(image: &mut Image, n: usize, op: u32, i: Insn, b: u32, c: u32, mask: u32)
+    requires lane { n < 32 }
+    requires vd { i.vd < 8 }
+    requires mask { mask ≡ Rows.full (enabled (lane_in image.old n)) }
     ensures { image.new ≡ Rows.storing_in image.old n (Compute.word_with op i b c (lane_in image.old n)) }
 {
     let vd = i.vd as usize;
@@ -57,8 +61,9 @@ fn word_put(image: &mut [u32], n: usize, op: u32, i: Insn, b: u32, c: u32, mask:
     put(image, vd, n, mask, word);
 }
 
-fn word_rows(image: &mut [u32], op: u32, i: Insn, b: &[u32; 32], c: &[u32; 32], go: &[u32; 128])
-    requires { (length image.old ≡ 768) × (Rows.Enabled go.now image.old × (i.vd < 8)) }
+fn word_rows(image: &mut Image, op: u32, i: Insn, b: &[u32; 32], c: &[u32; 32], go: &[u32; 128])
+    requires enabled { Rows.Enabled go.now image.old }
+    requires vd { i.vd < 8 }
     ensures { image.new ≡ Rows.storing image.old (λ L. Compute.word_with op i (slice_index b.now L) (slice_index c.now L) (lane_in image.old L)) }
 {
     for n in 0..32 {
@@ -70,7 +75,7 @@ fn word_rows(image: &mut [u32], op: u32, i: Insn, b: &[u32; 32], c: &[u32; 32], 
 fn truth_of(op: u32, word: u32) -> bool
     ensures { result ≡ Compute.truth_of op word }
 {
-    if op == 12 {
+    if op == op::LZ {
         word < 32
     } else {
         0x80000000 <= word
@@ -79,7 +84,7 @@ fn truth_of(op: u32, word: u32) -> bool
 
 // The word stored to vd in lane `n`, and the flag; the lane's mask afterwards.
 fn flagged_put(
-    image: &mut [u32],
+    image: &mut Image,
     n: usize,
     op: u32,
     i: Insn,
@@ -88,7 +93,9 @@ fn flagged_put(
     c: u32,
     mask: u32,
 ) -> u32
-    requires { (length image.old ≡ 768) × ((n < 32) × ((i.vd < 8) × (mask ≡ Rows.full (enabled (lane_in image.old n))))) }
+    requires lane { n < 32 }
+    requires vd { i.vd < 8 }
+    requires mask { mask ≡ Rows.full (enabled (lane_in image.old n)) }
     ensures { (image.new ≡ Rows.storing_in image.old n (Compute.flagged_with op i sets b c (lane_in image.old n))) × (result ≡ Rows.full (enabled (lane_in image.new n))) }
 {
     let vd = i.vd as usize;
@@ -101,7 +108,7 @@ fn flagged_put(
 }
 
 fn flagged_rows(
-    image: &mut [u32],
+    image: &mut Image,
     op: u32,
     i: Insn,
     sets: bool,
@@ -109,7 +116,8 @@ fn flagged_rows(
     c: &[u32; 32],
     go: &mut [u32; 128],
 )
-    requires { (length image.old ≡ 768) × (Rows.Enabled go.old image.old × (i.vd < 8)) }
+    requires enabled { Rows.Enabled go.old image.old }
+    requires vd { i.vd < 8 }
     ensures { (image.new ≡ Rows.storing image.old (λ L. Compute.flagged_with op i sets (slice_index b.now L) (slice_index c.now L) (lane_in image.old L))) × Rows.Enabled go.new image.new }
 {
     for n in 0..32 {
@@ -122,38 +130,28 @@ fn lz_counts(m: u32, c: &[u32; 32]) -> [u32; 32]
     ensures { result ≡ Rows.row (λ L. Compute.lz_count m (slice_index c.now L)) }
 {
     let limit = lz_limit(m);
-    let mut counts = [0u32; 32];
-    for n in 0..32 {
-        counts[n] = lz_count(limit, c[n]);
-    }
-    counts
+    row(|n| lz_count(limit, c[n]))
 }
 
 // An instruction with another mod.
 fn with_mod(i: Insn, m: u32) -> Insn
     ensures { result ≡ Compute.with_mod i m }
 {
-    Insn {
-        op: i.op,
-        imm: i.imm,
-        vb: i.vb,
-        vc: i.vc,
-        vd: i.vd,
-        md: m,
-    }
+    Insn { md: m, ..i }
 }
 
 // ABS, AND, OR, XOR, NOT or EXMAN over all lanes. AND and OR are of vb and vc with mod 0 too, vd then standing for vb; in the others mod is odd or even.
 // So mod is a constant in every loop.
-pub(crate) fn valued(image: &mut [u32], op: u32, i: Insn, go: &[u32; 128], fixed: &[u32; 128])
-    requires { (length image.old ≡ 768) × (Rows.Enabled go.now image.old × ((fixed.now ≡ Rows.fixed_rows) × (Compute.sets_flags op ≡ false))) }
+pub(crate) fn valued(image: &mut Image, op: u32, i: Insn, go: &[u32; 128], tables: &Tables)
+    requires enabled { Rows.Enabled go.now image.old }
+    requires op { Compute.sets_flags op ≡ false }
     ensures { image.new ≡ Rows.storing image.old (λ L. Rules.valued op i L (lane_in image.old L)) }
 {
     if i.vd < 8 {
-        let c = source(image, fixed, i.vc);
-        let two = (op == 8) | (op == 9);
+        let c = source(image, tables, i.vc);
+        let two = (op == op::AND) | (op == op::OR);
         if two {
-            let b = source(image, fixed, keep(i.md % 2 == 1, i.vb, i.vd));
+            let b = source(image, tables, keep(i.md % 2 == 1, i.vb, i.vd));
             word_rows(image, op, with_mod(i, 1), &b, &c, go);
         } else if i.md % 2 == 1 {
             word_rows(image, op, with_mod(i, 1), &c, &c, go);
@@ -175,82 +173,85 @@ pub(crate) fn changes_flags(op: u32, m: u32) -> bool
     ensures { result ≡ Compute.changes_flags op m }
 {
     match op {
-        6 => touches(!(m / 4 % 2 == 1), m),
-        12 => true,
-        13 => touches(m / 2 % 2 == 1, m),
+        op::IADD => touches(!(m / 4 % 2 == 1), m),
+        op::LZ => true,
+        op::EXEXP => touches(m / 2 % 2 == 1, m),
         _ => false,
     }
 }
 
-// IADD over all lanes, the words alone: for a mod that leaves the flags. It and EXEXP's are two functions, as each has a loop of its own once compiled.
-pub(crate) fn iadd_words(image: &mut [u32], i: Insn, go: &[u32; 128], fixed: &[u32; 128])
-    requires { (length image.old ≡ 768) × (Rows.Enabled go.now image.old × ((fixed.now ≡ Rows.fixed_rows) × ((not (has i.md 4) || has i.md 8) ≡ false))) }
+// IADD over all lanes, the words alone: for a mod that leaves the flags. It and EXEXP's are two functions: their promises name two rules, `Rules.iadd` and
+// `Rules.exexp`, each for the mods that leave its flags, and each has a loop of its own once compiled.
+pub(crate) fn iadd_words(image: &mut Image, i: Insn, go: &[u32; 128], tables: &Tables)
+    requires enabled { Rows.Enabled go.now image.old }
+    requires md { (not (has i.md 4) || has i.md 8) ≡ false }
     ensures { (image.new ≡ Rows.storing image.old (λ L. Rules.iadd i L (lane_in image.old L))) × Rows.Enabled go.now image.new }
 {
     if i.vd < 8 {
-        let c = source(image, fixed, i.vc);
-        word_rows(image, 6, i, &c, &c, go);
+        let c = source(image, tables, i.vc);
+        word_rows(image, op::IADD, i, &c, &c, go);
     }
 }
 
 // EXEXP's words alone.
-pub(crate) fn exexp_words(image: &mut [u32], i: Insn, go: &[u32; 128], fixed: &[u32; 128])
-    requires { (length image.old ≡ 768) × (Rows.Enabled go.now image.old × ((fixed.now ≡ Rows.fixed_rows) × ((has i.md 2 || has i.md 8) ≡ false))) }
+pub(crate) fn exexp_words(image: &mut Image, i: Insn, go: &[u32; 128], tables: &Tables)
+    requires enabled { Rows.Enabled go.now image.old }
+    requires md { (has i.md 2 || has i.md 8) ≡ false }
     ensures { (image.new ≡ Rows.storing image.old (λ L. Rules.exexp i L (lane_in image.old L))) × Rows.Enabled go.now image.new }
 {
     if i.vd < 8 {
-        let c = source(image, fixed, i.vc);
-        word_rows(image, 13, i, &c, &c, go);
+        let c = source(image, tables, i.vc);
+        word_rows(image, op::EXEXP, i, &c, &c, go);
     }
 }
 
 // IADD over all lanes. Each of its three words has a call, all the same, and so a loop without the tests of the other two.
-pub(crate) fn iadd(image: &mut [u32], i: Insn, go: &mut [u32; 128], fixed: &[u32; 128])
-    requires { (length image.old ≡ 768) × (Rows.Enabled go.old image.old × (fixed.now ≡ Rows.fixed_rows)) }
+pub(crate) fn iadd(image: &mut Image, i: Insn, go: &mut [u32; 128], tables: &Tables)
+    requires { Rows.Enabled go.old image.old }
     ensures { (image.new ≡ Rows.storing image.old (λ L. Rules.iadd i L (lane_in image.old L))) × Rows.Enabled go.new image.new }
 {
     if i.vd < 8 {
-        let c = source(image, fixed, i.vc);
+        let c = source(image, tables, i.vc);
         let sets = !(i.md / 4 % 2 == 1);
         if i.md % 2 == 1 {
-            flagged_rows(image, 6, i, sets, &c, &c, go);
+            flagged_rows(image, op::IADD, i, sets, &c, &c, go);
         } else if i.md / 2 % 2 == 1 {
-            flagged_rows(image, 6, i, sets, &c, &c, go);
+            flagged_rows(image, op::IADD, i, sets, &c, &c, go);
         } else {
-            flagged_rows(image, 6, i, sets, &c, &c, go);
+            flagged_rows(image, op::IADD, i, sets, &c, &c, go);
         }
     }
 }
 
 // LZ over all lanes.
-pub(crate) fn lz(image: &mut [u32], i: Insn, go: &mut [u32; 128], fixed: &[u32; 128])
-    requires { (length image.old ≡ 768) × (Rows.Enabled go.old image.old × (fixed.now ≡ Rows.fixed_rows)) }
+pub(crate) fn lz(image: &mut Image, i: Insn, go: &mut [u32; 128], tables: &Tables)
+    requires { Rows.Enabled go.old image.old }
     ensures { (image.new ≡ Rows.storing image.old (λ L. Rules.lz i L (lane_in image.old L))) × Rows.Enabled go.new image.new }
 {
     if i.vd < 8 {
-        let c = source(image, fixed, i.vc);
+        let c = source(image, tables, i.vc);
         let counts = lz_counts(i.md, &c);
         let sets = i.md / 2 % 2 == 1;
         if touches(sets, i.md) {
-            flagged_rows(image, 12, i, sets, &counts, &c, go);
+            flagged_rows(image, op::LZ, i, sets, &counts, &c, go);
         } else {
-            word_rows(image, 12, i, &counts, &c, go);
+            word_rows(image, op::LZ, i, &counts, &c, go);
         }
     }
 }
 
 // EXEXP over all lanes, in the same way where mod inverts flags and where not.
-pub(crate) fn exexp(image: &mut [u32], i: Insn, go: &mut [u32; 128], fixed: &[u32; 128])
-    requires { (length image.old ≡ 768) × (Rows.Enabled go.old image.old × (fixed.now ≡ Rows.fixed_rows)) }
+pub(crate) fn exexp(image: &mut Image, i: Insn, go: &mut [u32; 128], tables: &Tables)
+    requires { Rows.Enabled go.old image.old }
     ensures { (image.new ≡ Rows.storing image.old (λ L. Rules.exexp i L (lane_in image.old L))) × Rows.Enabled go.new image.new }
 {
     if i.vd < 8 {
-        let c = source(image, fixed, i.vc);
+        let c = source(image, tables, i.vc);
         let sets = i.md / 2 % 2 == 1;
         if i.md / 8 % 2 == 1 {
-            flagged_rows(image, 13, i, sets, &c, &c, go);
+            flagged_rows(image, op::EXEXP, i, sets, &c, &c, go);
         } else {
-            flagged_rows(image, 13, i, sets, &c, &c, go);
+            flagged_rows(image, op::EXEXP, i, sets, &c, &c, go);
         }
     }
 }

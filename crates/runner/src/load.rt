@@ -1,5 +1,8 @@
 // LOAD and LOADI over all lanes. LOAD reads both cells of each lane's pair and keeps one by a mask, so that no place is worked out for each
 // lane; then it stores the words, and the captured places in a loop of their own, and counts both by the masks they were stored under.
+//
+// That an address has ten bits is said in each contract, here, in store.rt and above: a type for it would be made anew from each u16 that lane's `address`
+// returns, and taken apart where it is used. That `opens` is the row of an image is said in each too: no struct holds it, since the image is stored to meanwhile.
 ghost use Rattle.std.specs.Prelude.{◌≡◌, ℕ, ◌+◌, ◌*◌, ◌%◌, ◌<◌, ◌≤◌, Bool, length, slice_index};
 ghost use Rattle.lane.specs.Words.{bit, build, register_stores};
 ghost use Rattle.lane.specs.Load as Rules;
@@ -9,32 +12,25 @@ ghost use Rattle.runner.specs.PrivateRows as Rows;
 ghost use Rattle.runner.specs.PrivateLoad as LoadRows;
 ghost use Rattle.runner.specs.PrivateSteps as Steps;
 
-use crate::rows::{full, masked, put, word_at};
+use crate::rows::{by_columns, full, masked, put, row, word_at};
 use crate::traffic::count_marked;
+use crate::{Dst, Image};
 use lane::Insn;
 use lane::load::{captures, immediate, loaded, resolved};
 use lane::words::LANE_CONFIG;
 
 // The masks of the lanes whose cell is the odd one of its pair. The four lanes of a column go by the first one's LaneConfig.
-pub(crate) fn odd_row(image: &[u32], a: u16) -> [u32; 32]
-    requires { length image.now ≡ 768 }
+pub(crate) fn odd_row(image: &Image, a: u16) -> [u32; 32]
     ensures { result ≡ LoadRows.odd_in image.now a }
 {
     let all = full(a / 2 % 2 == 1);
-    let mut odds = [0u32; 32];
-    for j in 0..8 {
-        let mask = all | full(word_at(image, LANE_CONFIG, j) / 32 % 2 == 1);
-        odds[j] = mask;
-        odds[8 + j] = mask;
-        odds[16 + j] = mask;
-        odds[24 + j] = mask;
-    }
-    odds
+    by_columns(|j| all | full(word_at(image, LANE_CONFIG, j) / 32 % 2 == 1))
 }
 
-// Both cells of every lane, one pair after the other from `at` on.
-fn pairs(dst: &[u16], at: usize) -> [u32; 64]
-    requires { at + 64 ≤ length dst.now }
+// Both cells of every lane, one pair after the other from `at` on. These are 64 words, and `row`'s are 32; after `array::from_fn` the search leaves
+// `returns` open.
+fn pairs(dst: &Dst, at: usize) -> [u32; 64]
+    requires { at + 64 ≤ 16384 }
     ensures { result ≡ build 64 (λ k. slice_index dst.now (at + k)) }
 {
     let mut both = [0u32; 64];
@@ -45,33 +41,26 @@ fn pairs(dst: &[u16], at: usize) -> [u32; 64]
 }
 
 // The cell of each lane: the odd one of its pair, or the even one, by its mask.
-pub(crate) fn cells(dst: &[u16], at: usize, odds: &[u32; 32]) -> [u32; 32]
-    requires { at + 64 ≤ length dst.now }
+pub(crate) fn cells(dst: &Dst, at: usize, odds: &[u32; 32]) -> [u32; 32]
+    requires { at + 64 ≤ 16384 }
     ensures { (odd : ℕ → Bool) → odds.now ≡ Rows.row (λ L. Rows.full (odd L)) → result ≡ Rows.row (λ L. LoadRows.cell_of dst.now at (odd L) L) }
 {
     let both = pairs(dst, at);
-    let mut got = [0u32; 32];
-    for n in 0..32 {
-        got[n] = masked(odds[n], both[2 * n + 1], both[2 * n]);
-    }
-    got
+    row(|n| masked(odds[n], both[2 * n + 1], both[2 * n]))
 }
 
 // The masks of the lanes that LOAD stores in: enabled, and not held back by bit 1 of LaneConfig.
-fn open_row(image: &[u32], go: &[u32; 128]) -> [u32; 32]
-    requires { (length image.now ≡ 768) × Rows.Enabled go.now image.now }
+fn open_row(image: &Image, go: &[u32; 128]) -> [u32; 32]
+    requires { Rows.Enabled go.now image.now }
     ensures { result ≡ LoadRows.open_in image.now }
 {
-    let mut opens = [0u32; 32];
-    for n in 0..32 {
-        opens[n] = go[n] & full(!(word_at(image, LANE_CONFIG, n) / 2 % 2 == 1));
-    }
-    opens
+    row(|n| go[n] & full(!(word_at(image, LANE_CONFIG, n) / 2 % 2 == 1)))
 }
 
 // LOAD's words with mod `m`. The words of `got` are cells: cutting them to 16 bits changes nothing, and `loaded` takes no more.
-fn load_rows(image: &mut [u32], vd: usize, m: u32, got: &[u32; 32], opens: &[u32; 32])
-    requires { (length image.old ≡ 768) × ((vd < 8) × (opens.now ≡ LoadRows.open_in image.old)) }
+fn load_rows(image: &mut Image, vd: usize, m: u32, got: &[u32; 32], opens: &[u32; 32])
+    requires vd { vd < 8 }
+    requires opens { opens.now ≡ LoadRows.open_in image.old }
     ensures { image.new ≡ Rows.storing image.old (λ L. LoadRows.loaded_only vd m (slice_index got.now L % 65536) (lane_in image.old L)) }
 {
     for n in 0..32 {
@@ -82,8 +71,9 @@ fn load_rows(image: &mut [u32], vd: usize, m: u32, got: &[u32; 32], opens: &[u32
 }
 
 // The mod is a constant in each arm, so that each has a loop of its own once compiled. A mod that has no conversion gives 0, as 11 does.
-fn load_by_mod(image: &mut [u32], vd: usize, m: u32, got: &[u32; 32], opens: &[u32; 32])
-    requires { (length image.old ≡ 768) × ((vd < 8) × (opens.now ≡ LoadRows.open_in image.old)) }
+fn load_by_mod(image: &mut Image, vd: usize, m: u32, got: &[u32; 32], opens: &[u32; 32])
+    requires vd { vd < 8 }
+    requires opens { opens.now ≡ LoadRows.open_in image.old }
     ensures { image.new ≡ Rows.storing image.old (λ L. LoadRows.loaded_only vd m (slice_index got.now L % 65536) (lane_in image.old L)) }
 {
     match m {
@@ -103,13 +93,15 @@ fn load_by_mod(image: &mut [u32], vd: usize, m: u32, got: &[u32; 32], opens: &[u
 
 // The captured places, vd being below 4; `first` is the place of lane 0's even cell. The masks of the lanes that capture are returned.
 fn capture_rows(
-    image: &mut [u32],
+    image: &mut Image,
     vd: usize,
     first: u32,
     odds: &[u32; 32],
     opens: &[u32; 32],
 ) -> [u32; 32]
-    requires { (length image.old ≡ 768) × ((vd < 4) × ((first < 16384) × (opens.now ≡ LoadRows.open_in image.old))) }
+    requires vd { vd < 4 }
+    requires first { first < 16384 }
+    requires opens { opens.now ≡ LoadRows.open_in image.old }
     ensures { (image.new ≡ Rows.storing image.old (λ L. LoadRows.captured_only vd (first + 2 * L + slice_index odds.now L % 2) (lane_in image.old L))) × (result ≡ LoadRows.caught_in vd image.old) }
 {
     let mut caught = [0u32; 32];
@@ -123,14 +115,16 @@ fn capture_rows(
 
 // The captured places, for any vd below 8, and the count of them: none from 4 on.
 fn capture(
-    image: &mut [u32],
+    image: &mut Image,
     vd: usize,
     first: u32,
     odds: &[u32; 32],
     opens: &[u32; 32],
     stores: &mut [u32],
 )
-    requires { (length image.old ≡ 768) × ((first < 16384) × ((opens.now ≡ LoadRows.open_in image.old) × Steps.Room 4 stores.old)) }
+    requires first { first < 16384 }
+    requires opens { opens.now ≡ LoadRows.open_in image.old }
+    requires stores { Steps.Room 4 stores.old }
     ensures { (image.new ≡ Rows.storing image.old (λ L. LoadRows.captured_only vd (first + 2 * L + slice_index odds.now L % 2) (lane_in image.old L))) × (stores.new ≡ Steps.counted stores.old (Steps.times 1 (LoadRows.is_caught vd image.old))) }
 {
     if vd < 4 {
@@ -141,15 +135,18 @@ fn capture(
 
 // LOAD with mod `m` at address `a`, vd being below 8.
 fn load_words(
-    image: &mut [u32],
-    dst: &[u16],
+    image: &mut Image,
+    dst: &Dst,
     a: u16,
     vd: usize,
     m: u32,
     go: &[u32; 128],
     stores: &mut [u32],
 )
-    requires { (length image.old ≡ 768) × (Rows.Enabled go.now image.old × ((length dst.now ≡ 16384) × ((a < 1024) × ((vd < 8) × Steps.Room 24 stores.old)))) }
+    requires enabled { Rows.Enabled go.now image.old }
+    requires address { a < 1024 }
+    requires vd { vd < 8 }
+    requires stores { Steps.Room 24 stores.old }
     ensures { (image.new ≡ Rows.storing image.old (λ L. LoadRows.loaded_at image.old dst.now a vd m L)) × (stores.new ≡ Steps.counted stores.old (λ L. register_stores (LoadRows.loaded_at image.old dst.now a vd m L))) }
 {
     let odds = odd_row(image, a);
@@ -163,15 +160,17 @@ fn load_words(
 
 // LOAD over all lanes, at address `a`.
 pub(crate) fn load(
-    image: &mut [u32],
-    dst: &[u16],
+    image: &mut Image,
+    dst: &Dst,
     srcb: u32,
     a: u16,
     i: Insn,
     go: &[u32; 128],
     stores: &mut [u32],
 )
-    requires { (length image.old ≡ 768) × (Rows.Enabled go.now image.old × ((length dst.now ≡ 16384) × ((a < 1024) × Steps.Room 24 stores.old))) }
+    requires enabled { Rows.Enabled go.now image.old }
+    requires address { a < 1024 }
+    requires stores { Steps.Room 24 stores.old }
     ensures { (image.new ≡ Rows.storing image.old (λ L. Rules.load srcb a i L (bit (lane_in image.old (L % 8) 12) 5) (even_cell dst.now a L) (odd_cell dst.now a L) (lane_in image.old L))) × (stores.new ≡ Steps.counted stores.old (λ L. register_stores (Rules.load srcb a i L (bit (lane_in image.old (L % 8) 12) 5) (even_cell dst.now a L) (odd_cell dst.now a L) (lane_in image.old L)))) }
 {
     if i.vd < 8 {
@@ -188,8 +187,9 @@ pub(crate) fn load(
 }
 
 // LOADI's words, vd being below 8.
-fn loadi_rows(image: &mut [u32], i: Insn, go: &[u32; 128])
-    requires { (length image.old ≡ 768) × (Rows.Enabled go.now image.old × (i.vd < 8)) }
+fn loadi_rows(image: &mut Image, i: Insn, go: &[u32; 128])
+    requires enabled { Rows.Enabled go.now image.old }
+    requires vd { i.vd < 8 }
     ensures { image.new ≡ Rows.storing image.old (λ L. Rules.loadi i (lane_in image.old L)) }
 {
     let vd = i.vd as usize;
@@ -200,8 +200,8 @@ fn loadi_rows(image: &mut [u32], i: Insn, go: &[u32; 128])
 }
 
 // LOADI over all lanes.
-pub(crate) fn loadi(image: &mut [u32], i: Insn, go: &[u32; 128])
-    requires { (length image.old ≡ 768) × Rows.Enabled go.now image.old }
+pub(crate) fn loadi(image: &mut Image, i: Insn, go: &[u32; 128])
+    requires { Rows.Enabled go.now image.old }
     ensures { image.new ≡ Rows.storing image.old (λ L. Rules.loadi i (lane_in image.old L)) }
 {
     if i.vd < 8 {

@@ -13,58 +13,61 @@ use crate::compute::{changes_flags, exexp, exexp_words, iadd, iadd_words, lz, va
 use crate::config::config;
 use crate::load::{load, loadi};
 use crate::lut::lut;
-use crate::rows::{enabled_row, fixed_rows};
+use crate::rows::enabled_row;
 use crate::store::store;
 use crate::swap::swap;
+use crate::tables::Tables;
 use crate::traffic::{count_enabled, once, settle};
-use crate::{Ended, Onward, Outcome, insn_at};
+use crate::{Dst, Ended, Image, Onward, Outcome, Tally};
 use lane::load::{address, meets_dst, next_cursor, stride};
-use lane::swap::MASKS;
-use lane::{Insn, Settings};
+use lane::{Insn, Settings, op};
 
-// An operation that stores once in each lane that is enabled, where vd is stored to, and leaves the flags. The op is a constant where one function serves several.
-fn step_noted(i: Insn, image: &mut [u32], go: &[u32; 128], fixed: &[u32; 128])
-    requires { (length image.old ≡ 768) × (Rows.Enabled go.now image.old × ((fixed.now ≡ Rows.fixed_rows) × Steps.IsNoted i.op i.md)) }
+// An operation that stores once in each lane that is enabled, where vd is stored to, and leaves the flags. The op is a constant where one function serves several,
+// which no table of functions would keep.
+fn step_noted(i: Insn, image: &mut Image, go: &[u32; 128], tables: &Tables)
+    requires enabled { Rows.Enabled go.now image.old }
+    requires noted { Steps.IsNoted i.op i.md }
     ensures { Steps.Noted i image.old image.new go.now }
 {
     let op = i.op;
     match op {
-        2 => loadi(image, i, go),
-        6 => iadd_words(image, i, go, fixed),
-        7 => valued(image, 7, i, go, fixed),
-        8 => valued(image, 8, i, go, fixed),
-        9 => valued(image, 9, i, go, fixed),
-        10 => valued(image, 10, i, go, fixed),
-        11 => valued(image, 11, i, go, fixed),
-        13 => exexp_words(image, i, go, fixed),
-        _ => valued(image, 14, i, go, fixed),
+        op::LOADI => loadi(image, i, go),
+        op::IADD => iadd_words(image, i, go, tables),
+        op::ABS => valued(image, op::ABS, i, go, tables),
+        op::AND => valued(image, op::AND, i, go, tables),
+        op::OR => valued(image, op::OR, i, go, tables),
+        op::XOR => valued(image, op::XOR, i, go, tables),
+        op::NOT => valued(image, op::NOT, i, go, tables),
+        op::EXEXP => exexp_words(image, i, go, tables),
+        _ => valued(image, op::EXMAN, i, go, tables),
     }
 }
 
-// Any instruction that does not meet Dst and sets no flags, in every lane; the stores that are owed after it. `go` are the run's rows of masks, `fixed` the rows of
-// the registers never stored, `ties` and `stores` the columns' counts.
+// Any instruction that does not meet Dst and sets no flags, in every lane; the stores that are owed after it. `go` are the run's rows of masks.
 fn step_stored(
     s: Settings,
     i: Insn,
-    image: &mut [u32],
+    image: &mut Image,
     go: &mut [u32; 128],
-    fixed: &[u32; 128],
-    masks: &[u32; 16],
-    ties: &mut [u32],
+    tables: &Tables,
     owed: u32,
-    stores: &mut [u32],
+    counts: &mut Tally,
 ) -> u32
-    requires { (length image.old ≡ 768) × (Rows.Enabled go.old image.old × (((fixed.now ≡ Rows.fixed_rows) × (masks.now ≡ Swap.masks)) × ((Steps.Room 4 ties.old × Steps.Room (4 * owed + 28) stores.old) × ((Load.meets_dst i.op ≡ false) × (Compute.changes_flags i.op i.md ≡ false))))) }
-    ensures { Steps.Stored s i image.old image.new go.new ties.old ties.new owed stores.old result stores.new }
+    requires enabled { Rows.Enabled go.old image.old }
+    requires ties { Steps.Room 4 counts.old.ties }
+    requires stores { Steps.Room (4 * owed + 28) counts.old.stores }
+    requires meets { Load.meets_dst i.op ≡ false }
+    requires flags { Compute.changes_flags i.op i.md ≡ false }
+    ensures { Steps.Stored s i image.old image.new go.new counts.old.ties counts.new.ties owed counts.old.stores result counts.new.stores }
 {
     let op = i.op;
     match op {
-        3 => lut(image, i, go, stores),
-        4 => swap(image, i, go, fixed, masks, ties, stores),
-        5 => config(image, s.edition, i, stores),
-        15 => {}
+        op::LUT => lut(image, i, go, &mut counts.stores),
+        op::SWAP => swap(image, i, go, tables, counts),
+        op::CONFIG => config(image, s.edition, i, &mut counts.stores),
+        op::NOP => {}
         _ => {
-            step_noted(i, image, go, fixed);
+            step_noted(i, image, go, tables);
             return owed + once(i.vd);
         }
     }
@@ -75,28 +78,30 @@ fn step_stored(
 // counted in each arm: before them it would cost a second jump.
 fn step_flagged(
     i: Insn,
-    image: &mut [u32],
+    image: &mut Image,
     go: &mut [u32; 128],
-    fixed: &[u32; 128],
+    tables: &Tables,
     owed: u32,
     stores: &mut [u32],
 )
-    requires { (length image.old ≡ 768) × (Rows.Enabled go.old image.old × ((fixed.now ≡ Rows.fixed_rows) × (Steps.Room (4 * owed + 28) stores.old × (Compute.changes_flags i.op i.md ≡ true)))) }
+    requires enabled { Rows.Enabled go.old image.old }
+    requires stores { Steps.Room (4 * owed + 28) stores.old }
+    requires flags { Compute.changes_flags i.op i.md ≡ true }
     ensures { Steps.Flagged i image.old image.new go.new owed stores.old stores.new }
 {
     let op = i.op;
     match op {
-        6 => {
+        op::IADD => {
             settle(i.vd, owed, go, stores);
-            iadd(image, i, go, fixed)
+            iadd(image, i, go, tables)
         }
-        12 => {
+        op::LZ => {
             settle(i.vd, owed, go, stores);
-            lz(image, i, go, fixed)
+            lz(image, i, go, tables)
         }
         _ => {
             settle(i.vd, owed, go, stores);
-            exexp(image, i, go, fixed)
+            exexp(image, i, go, tables)
         }
     }
 }
@@ -106,20 +111,23 @@ fn step_dst(
     s: Settings,
     i: Insn,
     a: u16,
-    image: &mut [u32],
-    dst: &mut [u16],
+    image: &mut Image,
+    dst: &mut Dst,
     go: &[u32; 128],
-    fixed: &[u32; 128],
+    tables: &Tables,
     stores: &mut [u32],
 )
-    requires { (length image.old ≡ 768) × ((length dst.old ≡ 16384) × (Rows.Enabled go.now image.old × ((fixed.now ≡ Rows.fixed_rows) × (((a < 1024) × Steps.Room 24 stores.old) × (Load.meets_dst i.op ≡ true))))) }
+    requires enabled { Rows.Enabled go.now image.old }
+    requires address { a < 1024 }
+    requires stores { Steps.Room 24 stores.old }
+    requires meets { Load.meets_dst i.op ≡ true }
     ensures { (owed : ℕ) → Steps.Met s i a image.old dst.old image.new dst.new go.now owed stores.old stores.new }
 {
-    if i.op == 1 {
+    if i.op == op::LOAD {
         load(image, dst, s.srcb, a, i, go, stores);
         return;
     }
-    store(image, dst, a, i, go, fixed);
+    store(image, dst, a, i, go, tables);
 }
 
 // One instruction, in every lane; the cursor after it, and the stores that are owed. Before the lanes that are enabled may change, what is owed to them is counted.
@@ -127,108 +135,97 @@ fn step_lanes(
     s: Settings,
     i: Insn,
     cursor: u32,
-    image: &mut [u32],
-    dst: &mut [u16],
+    image: &mut Image,
+    dst: &mut Dst,
     go: &mut [u32; 128],
-    fixed: &[u32; 128],
-    masks: &[u32; 16],
-    ties: &mut [u32],
+    tables: &Tables,
     owed: u32,
-    stores: &mut [u32],
+    counts: &mut Tally,
 ) -> Onward
-    requires { (length image.old ≡ 768) × ((length dst.old ≡ 16384) × (Rows.Enabled go.old image.old × (((fixed.now ≡ Rows.fixed_rows) × (masks.now ≡ Swap.masks)) × ((Steps.Room 4 ties.old × Steps.Room (4 * owed + 28) stores.old) × (Compute.changes_flags i.op i.md ≡ false))))) }
-    ensures { Steps.Left s i cursor image.old dst.old ties.old owed stores.old result image.new dst.new go.new ties.new stores.new }
+    requires enabled { Rows.Enabled go.old image.old }
+    requires ties { Steps.Room 4 counts.old.ties }
+    requires stores { Steps.Room (4 * owed + 28) counts.old.stores }
+    requires flags { Compute.changes_flags i.op i.md ≡ false }
+    ensures { Steps.Left s i cursor image.old dst.old counts.old.ties owed counts.old.stores result image.new dst.new go.new counts.new.ties counts.new.stores }
 {
     if meets_dst(i.op) {
         let a = address(i.imm, s.offset, cursor);
-        step_dst(s, i, a, image, dst, go, fixed, stores);
+        step_dst(s, i, a, image, dst, go, tables, &mut counts.stores);
         return Onward {
             cursor: next_cursor(i.op, cursor, stride(s, i.vb)),
             owed,
         };
     }
-    let due = step_stored(s, i, image, go, fixed, masks, ties, owed, stores);
+    let due = step_stored(s, i, image, go, tables, owed, counts);
     Onward { cursor, owed: due }
 }
 
 // All instructions of a list in turn, from a cursor; the cursor after them, the ties that they met, and the stores that they made. What lasts through them is made
-// once; `owed` are the stores that the counters lack of each lane that is enabled.
-pub(crate) fn step_all(
+// once; `owed` are the stores that the counters lack of each lane that is enabled. The limit is a clause here and in `scanned`: a type for a list within it would be
+// made in four places.
+pub(crate) fn step_list(
     s: Settings,
     cursor: u32,
-    image: &mut [u32],
-    dst: &mut [u16],
+    image: &mut Image,
+    dst: &mut Dst,
     list: &[u32],
 ) -> Ended
-    requires { (length image.old ≡ 768) × ((length dst.old ≡ 16384) × (length list.now ≤ 6 * Checks.list_limit)) }
-    ensures { Steps.Through s cursor image.old dst.old list.now result.cursor image.new dst.new result.ties result.stores }
+    requires { length list.now ≤ 6 * Checks.list_limit }
+    ensures { Steps.Through s cursor image.old dst.old list.now result.cursor image.new dst.new result.counts.ties result.counts.stores }
 {
-    let count = list.len() / 6;
     let mut go = [0u32; 128];
     enabled_row(image, &mut go);
-    let fixed = fixed_rows();
-    let masks = MASKS;
-    let mut ties = [0u32; 8];
-    let mut stores = [0u32; 8];
+    let tables = Tables::new();
+    let mut counts = Tally {
+        ties: [0; 8],
+        stores: [0; 8],
+    };
     let mut owed: u32 = 0;
     let mut at = cursor;
-    for k in 0..count {
-        let i = insn_at(list, k);
+    for insn in list.as_chunks::<6>().0 {
+        let i = Insn::from(*insn);
         if changes_flags(i.op, i.md) {
-            step_flagged(i, image, &mut go, &fixed, owed, &mut stores);
+            step_flagged(i, image, &mut go, &tables, owed, &mut counts.stores);
             owed = 0;
         } else {
-            let next = step_lanes(
-                s,
-                i,
-                at,
-                image,
-                dst,
-                &mut go,
-                &fixed,
-                &masks,
-                &mut ties,
-                owed,
-                &mut stores,
-            );
+            let next = step_lanes(s, i, at, image, dst, &mut go, &tables, owed, &mut counts);
             at = next.cursor;
             owed = next.owed;
         }
     }
-    count_enabled(&go, owed, &mut stores);
-    Ended {
-        cursor: at,
-        ties,
-        stores,
-    }
+    count_enabled(&go, owed, &mut counts.stores);
+    Ended { cursor: at, counts }
 }
 
 // A run of a list over an image and a Dst: a refusal leaves both untouched, and counts nothing.
 pub fn run(s: Settings, image: &mut [u32], dst: &mut [u16], list: &[u32]) -> Outcome
     ensures { Run.Ran s image.old dst.old list.now result image.new dst.new }
 {
-    let found = run_answer(s, image, dst, list);
-    let answer = found.answer;
-    let accepted = answer == 0;
-    if accepted {
-        let ended = step_all(s, s.cursor, image, dst, list);
-        let ties = ended.ties;
-        let stores = ended.stores;
+    if let Err(refused) = run_answer(s, image, dst, list) {
         return Outcome {
-            answer: 0,
-            steps: (list.len() / 6) as u32,
-            place: 0,
-            cursor: ended.cursor,
-            ties,
-            stores,
+            answer: u32::from(refused.why),
+            steps: 0,
+            place: refused.place,
+            cursor: s.cursor,
+            ties: [0u32; 8],
+            stores: [0u32; 8],
         };
     }
+    let Some(image) = image.as_mut_array::<768>() else {
+        unreachable!()
+    };
+    let Some(dst) = dst.as_mut_array::<16384>() else {
+        unreachable!()
+    };
+    let ended = step_list(s, s.cursor, image, dst, list);
+    let ties = ended.counts.ties;
+    let stores = ended.counts.stores;
     Outcome {
-        answer,
-        steps: 0,
-        place: found.place,
-        cursor: s.cursor,
-        ties: [0u32; 8],
-        stores: [0u32; 8],
+        answer: 0,
+        steps: (list.len() / 6) as u32,
+        place: 0,
+        cursor: ended.cursor,
+        ties,
+        stores,
     }
 }

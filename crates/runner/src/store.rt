@@ -10,33 +10,31 @@ ghost use Rattle.runner.specs.PrivateRows as Rows;
 ghost use Rattle.runner.specs.PrivateStore as StoreRows;
 
 use crate::load::odd_row;
-use crate::rows::source;
+use crate::rows::{row, source};
+use crate::tables::Tables;
+use crate::{Dst, Image};
 use lane::Insn;
 use lane::store::stored_cell;
 
 // A pair of cells as a word, the even one in its low half. The word is used once, so that the compiler reads both cells at a time.
-fn pair_at(dst: &[u16], at: usize) -> u32
-    requires { at + 1 < length dst.now }
+fn pair_at(dst: &Dst, at: usize) -> u32
+    requires { at + 1 < 16384 }
     ensures { result ≡ StoreRows.pair_of (slice_index dst.now at) (slice_index dst.now (at + 1)) }
 {
     dst[at] as u32 + dst[at + 1] as u32 * 0x10000
 }
 
 // The pairs of all lanes, from `first` on, in a loop of their own before any is written.
-fn pairs_of(dst: &[u16], first: usize) -> [u32; 32]
-    requires { first + 64 ≤ length dst.now }
+fn pairs_of(dst: &Dst, first: usize) -> [u32; 32]
+    requires { first + 64 ≤ 16384 }
     ensures { result ≡ Rows.row (λ L. StoreRows.pair_of (slice_index dst.now (first + 2 * L)) (slice_index dst.now (first + 2 * L + 1))) }
 {
-    let mut both = [0u32; 32];
-    for n in 0..32 {
-        both[n] = pair_at(dst, first + 2 * n);
-    }
-    both
+    row(|n| pair_at(dst, first + 2 * n))
 }
 
 // A pair of cells from such a word.
-fn put_pair(dst: &mut [u16], at: usize, both: u32)
-    requires { at + 1 < length dst.old }
+fn put_pair(dst: &mut Dst, at: usize, both: u32)
+    requires { at + 1 < 16384 }
     ensures { dst.new ≡ slice_set (slice_set dst.old at (both % 65536)) (at + 1) (both / 65536) }
 {
     dst[at] = (both % 0x10000) as u16;
@@ -54,14 +52,16 @@ fn pair_after(go: u32, odd: u32, cell: u16, old: u32) -> u32
 
 // STORE's cells with mod `m`, of a row of words.
 pub(crate) fn store_rows(
-    dst: &mut [u16],
+    dst: &mut Dst,
     a: u16,
     m: u32,
     words: &[u32; 32],
     odds: &[u32; 32],
     go: &[u32; 128],
 )
-    requires { (length dst.old ≡ 16384) × ((a < 1024) × (Rows.Masks 32 odds.now × Rows.Masks 32 go.now)) }
+    requires address { a < 1024 }
+    requires odds { Rows.Masks 32 odds.now }
+    requires go { Rows.Masks 32 go.now }
     ensures { dst.new ≡ with_cells a dst.old (StoreRows.stored_by m words.now odds.now go.now dst.old a) }
 {
     let first = 64 * ((a as usize) / 4);
@@ -74,15 +74,10 @@ pub(crate) fn store_rows(
 }
 
 // The mod is a constant in each arm, so that each has a loop of its own once compiled. 9 is as 6.
-fn store_by_mod(
-    dst: &mut [u16],
-    a: u16,
-    m: u32,
-    words: &[u32; 32],
-    odds: &[u32; 32],
-    go: &[u32; 128],
-)
-    requires { (length dst.old ≡ 16384) × ((a < 1024) × (Rows.Masks 32 odds.now × Rows.Masks 32 go.now)) }
+fn store_by_mod(dst: &mut Dst, a: u16, m: u32, words: &[u32; 32], odds: &[u32; 32], go: &[u32; 128])
+    requires address { a < 1024 }
+    requires odds { Rows.Masks 32 odds.now }
+    requires go { Rows.Masks 32 go.now }
     ensures { dst.new ≡ with_cells a dst.old (StoreRows.stored_by m words.now odds.now go.now dst.old a) }
 {
     match m {
@@ -93,18 +88,12 @@ fn store_by_mod(
 }
 
 // STORE over all lanes, at address `a`.
-pub(crate) fn store(
-    image: &[u32],
-    dst: &mut [u16],
-    a: u16,
-    i: Insn,
-    go: &[u32; 128],
-    fixed: &[u32; 128],
-)
-    requires { (length image.now ≡ 768) × ((length dst.old ≡ 16384) × (Rows.Enabled go.now image.now × ((fixed.now ≡ Rows.fixed_rows) × (a < 1024)))) }
+pub(crate) fn store(image: &Image, dst: &mut Dst, a: u16, i: Insn, go: &[u32; 128], tables: &Tables)
+    requires enabled { Rows.Enabled go.now image.now }
+    requires address { a < 1024 }
     ensures { dst.new ≡ with_cells a dst.old (λ L. Rules.store a i L (bit (lane_in image.now (L % 8) 12) 5) (even_cell dst.old a L) (odd_cell dst.old a L) (lane_in image.now L)) }
 {
     let odds = odd_row(image, a);
-    let words = source(image, fixed, i.vd);
+    let words = source(image, tables, i.vd);
     store_by_mod(dst, a, i.md, &words, &odds, go);
 }

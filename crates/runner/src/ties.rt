@@ -7,7 +7,8 @@ ghost use Rattle.runner.specs.PrivateRows as Rows;
 ghost use Rattle.runner.specs.PrivateSteps as Steps;
 ghost use Rattle.runner.specs.PrivateSwap as Swaps;
 
-use crate::rows::{full, word_at};
+use crate::Image;
+use crate::rows::{full, may_act, word_at};
 use lane::Insn;
 use lane::words::LANE_CONFIG;
 
@@ -16,29 +17,32 @@ use lane::words::LANE_CONFIG;
 fn tie_flag(go: u32, free: bool, config: u32, c: u32, d: u32) -> u32
     ensures { (e : Bool) → go ≡ Rows.full e → result ≡ flag_of (((free || bit config 4) && e) && Rules.is_equal (Rules.compared c d)) }
 {
-    go & full((free | (config / 16 % 2 == 1)) & (c == d)) & 1
+    go & full(may_act(free, config) & (c == d)) & 1
 }
 
 // The same for lane `n`.
-fn tie_at(image: &[u32], free: bool, go: &[u32; 128], c: &[u32; 32], d: &[u32; 32], n: usize) -> u32
-    requires { (length image.now ≡ 768) × (Rows.Enabled go.now image.now × (n < 32)) }
+fn tie_at(image: &Image, free: bool, go: &[u32; 128], c: &[u32; 32], d: &[u32; 32], n: usize) -> u32
+    requires enabled { Rows.Enabled go.now image.now }
+    requires lane { n < 32 }
     ensures { result ≡ flag_of (Swaps.tied_by free (slice_index c.now n) (slice_index d.now n) (lane_in image.now n)) }
 {
     let config = word_at(image, LANE_CONFIG, n);
     tie_flag(go[n], free, config, c[n], d[n])
 }
 
-// The columns one by one, each with its four lanes, so that eight counters are read and written where 32 would be. They are lent as a part, whose length the
-// compiler learns late: else it unrolls the loop before it weighs the steps, which then come close to its bound for one function (bench/RESULTS.md).
+// The columns one by one by index, by which each one's four lanes are read too, so that eight counters are read and written where 32 would be. They are lent as a
+// part, whose length the compiler learns late: else it unrolls the loop before it weighs the steps, which then come close to its bound for one function
+// (bench/RESULTS.md).
 fn count_columns(
-    image: &[u32],
+    image: &Image,
     free: bool,
     go: &[u32; 128],
     c: &[u32; 32],
     d: &[u32; 32],
     ties: &mut [u32],
 )
-    requires { (length image.now ≡ 768) × (Rows.Enabled go.now image.now × Steps.Room 4 ties.old) }
+    requires enabled { Rows.Enabled go.now image.now }
+    requires ties { Steps.Room 4 ties.old }
     ensures { ties.new ≡ Steps.counted ties.old (λ L. flag_of (Swaps.tied_by free (slice_index c.now L) (slice_index d.now L) (lane_in image.now L))) }
 {
     for j in 0..ties.len() {
@@ -51,15 +55,19 @@ fn count_columns(
 }
 
 // The ties of a SWAP whose vc and vd have the rows `c` and `d`: none under mod 0. Each call has a constant, so that each has a loop of its own once compiled.
+// Here and in swap.rt the rows go as two, each with its equation: no struct of them could hold that, since it speaks of the image, which is lent apart.
 pub(crate) fn count_ties(
-    image: &[u32],
+    image: &Image,
     i: Insn,
     go: &[u32; 128],
     c: &[u32; 32],
     d: &[u32; 32],
     ties: &mut [u32],
 )
-    requires { (length image.now ≡ 768) × (Rows.Enabled go.now image.now × (Steps.Room 4 ties.old × ((c.now ≡ Rows.row (λ L. reg L (lane_in image.now L) i.vc)) × (d.now ≡ Rows.row (λ L. reg L (lane_in image.now L) i.vd))))) }
+    requires enabled { Rows.Enabled go.now image.now }
+    requires ties { Steps.Room 4 ties.old }
+    requires c { c.now ≡ Rows.row (λ L. reg L (lane_in image.now L) i.vc) }
+    requires d { d.now ≡ Rows.row (λ L. reg L (lane_in image.now L) i.vd) }
     ensures { ties.new ≡ Steps.counted ties.old (λ L. flag_of (Rules.tied i L (lane_in image.now L))) }
 {
     let ties_count = i.md != 0;

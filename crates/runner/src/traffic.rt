@@ -4,7 +4,7 @@
 // what is owed to every such lane. The lanes that are enabled change by IADD, LZ and EXEXP alone, and not with every mod: before they may, and at the end,
 // what is owed is counted.
 //
-// The counters are lent as a part, as for ties.
+// The counters are lent as a part, as for ties. Each function says what room it needs in them: there is no one bound for a type to hold.
 ghost use Rattle.std.specs.Prelude.{◌≡◌, ℕ, ◌+◌, ◌*◌, ◌<◌, ◌≤◌, Bool, length, nat_lt};
 ghost use Rattle.lane.specs.Words.{flag_of};
 ghost use Rattle.runner.specs.Run.{over_column};
@@ -22,7 +22,9 @@ pub(crate) fn once(vd: u32) -> u32
 
 // How many of a column's four lanes are marked, by the masks from `at` on: a mask taken away is 1 added.
 fn marked_in(t: &[u32], at: usize, j: usize) -> u32
-    requires { (at + 32 ≤ length t.now) × (Rows.MasksAt at t.now × (j < 8)) }
+    requires within { at + 32 ≤ length t.now }
+    requires masks { Rows.MasksAt at t.now }
+    requires column { j < 8 }
     ensures { result ≡ over_column (λ L. flag_of (Rows.marked t.now (at + L))) j }
 {
     let last = wrapping_sub_u32(0, t[at + 24 + j]);
@@ -31,9 +33,12 @@ fn marked_in(t: &[u32], at: usize, j: usize) -> u32
     wrapping_sub_u32(second, t[at + j])
 }
 
-// So many stores in each lane that is marked by the 32 masks from `at` on. The number is a constant in every call.
+// So many stores in each lane that is marked by the 32 masks from `at` on. The number is a constant in every call. The columns go by index, by which their masks
+// are read too.
 pub(crate) fn count_marked(t: &[u32], at: usize, each: u32, stores: &mut [u32])
-    requires { (at + 32 ≤ length t.now) × (Rows.MasksAt at t.now × Steps.Room (4 * each) stores.old) }
+    requires within { at + 32 ≤ length t.now }
+    requires masks { Rows.MasksAt at t.now }
+    requires stores { Steps.Room (4 * each) stores.old }
     ensures { (e : ℕ → Bool) → Rows.MarksAt at e t.now → stores.new ≡ Steps.counted stores.old (Steps.times each e) }
 {
     for j in 0..stores.len() {
@@ -43,7 +48,7 @@ pub(crate) fn count_marked(t: &[u32], at: usize, each: u32, stores: &mut [u32])
 
 // The same for the lanes that are enabled, and for any number.
 pub(crate) fn count_enabled(go: &[u32; 128], each: u32, stores: &mut [u32])
-    requires { (length go.now ≡ 128) × Steps.Room (4 * each) stores.old }
+    requires { Steps.Room (4 * each) stores.old }
     ensures { (e : ℕ → Bool) → Rows.MarksAt 0 e go.now → stores.new ≡ Steps.counted stores.old (Steps.times each e) }
 {
     for j in 0..stores.len() {
@@ -57,7 +62,7 @@ pub(crate) fn count_enabled(go: &[u32; 128], each: u32, stores: &mut [u32])
 
 // What is owed counted, and the stores of an instruction that may change flags with it.
 pub(crate) fn settle(vd: u32, owed: u32, go: &[u32; 128], stores: &mut [u32])
-    requires { (length go.now ≡ 128) × Steps.Room (4 * (owed + 1)) stores.old }
+    requires { Steps.Room (4 * (owed + 1)) stores.old }
     ensures { (e : ℕ → Bool) → Rows.MarksAt 0 e go.now → stores.new ≡ Steps.counted stores.old (Steps.times (owed + flag_of (nat_lt vd 8)) e) }
 {
     count_enabled(go, owed + once(vd), stores);

@@ -2,7 +2,8 @@
 ghost use Rattle.std.specs.Prelude.{◌≡◌, ◌+◌, ◌≤◌, length};
 ghost use Rattle.runner.specs.Image as Image;
 
-// Whether there is something to see of register `r` in an image of `size` words.
+// Whether there is something to see of register `r` in an image of `size` words. Any number may be asked for here and below, where `is_stored` and `slot_of` (rows)
+// ask for a register below 16 and would need a test before them.
 fn in_view(size: usize, r: u32) -> bool
     ensures { result ≡ Image.in_view size r }
 {
@@ -40,7 +41,7 @@ pub fn register_lanes(image: &[u32], r: u32) -> &[u32]
     &image[at..at + count]
 }
 
-// Register `r`'s lanes, to write.
+// Register `r`'s lanes, to write: a function of its own, since none is generic over & and &mut.
 pub fn register_lanes_mut(image: &mut [u32], r: u32) -> &mut [u32]
     ensures { (result.now ≡ Image.view image.old r) × (result.ref_ptr ≡ Image.view_pointer image.entry.ref_ptr image.old r) }
 {

@@ -1,4 +1,4 @@
-// Numbers from standard input. Past its end they are 0, which is no kind of case.
+// Numbers from standard input. Past its end they are 0, which ends the cases.
 ghost use Rattle.std.specs.Prelude.{◌≤◌};
 
 use std::array;

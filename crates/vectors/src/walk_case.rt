@@ -72,6 +72,7 @@ impl Walking {
         let store = &mut self.store[..];
         let store = &mut store[..self.lent.store];
         let walk = &mut self.walk;
+        // a match and no closure: each of the three borrows other parts
         let answer = match step {
             Step::Begin => replay_begin(settings, image, dst, list, &mut self.outcome, walk),
             Step::Forward => replay_forward(settings, image, dst, list, store, walk),
@@ -81,7 +82,7 @@ impl Walking {
         self.sum = checksum(checksum(checksum(told, image), store), dst);
     }
 
-    // A step, or what a host changes between steps.
+    // A step, or what a host changes between steps. The numbers are those of tests/CASES.md, and read here alone: an enum would name each arm twice.
     fn call<R: Read>(&mut self, input: &mut R) {
         match number(input) {
             1 => self.step(Step::Forward),

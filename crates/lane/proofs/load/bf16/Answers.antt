@@ -1,7 +1,8 @@
-use Rattle.std.proofs.Common.{◌≡◌, ℕ, ◌+◌, ◌*◌, ◌/◌, ◌%◌, ◌^◌, ◌<◌, ap, ◌∙◌, ap₂, mod-eq_of_lt, lt_of_not-le, arith}
+use Rattle.std.proofs.Common.{◌≡◌, ℕ, ◌+◌, ◌*◌, ◌/◌, ◌%◌, ◌^◌, ◌<◌, ◌-◌, ltb, refl, ap, ◌∙◌, ap₂, lt_of_not-le, arith, le-ltb, lt-ltb}
 use native.Mathlib.Decide.{dec_le}
-use lib.Bits.{bit_and, bit_or, bit_xor, and_block, and_high, or_block, or_shifted, or_zero_r, xor_add_and}
+use lib.Bits.{bit_and, bit_or, and_block, and_high, or_block, or_shifted, or_zero_r}
 use Rattle.lane.specs.Load.{bf16}
+use Rattle.lane.specs.Words.{pick}
 use Rattle.lane.proofs.load.bf16.Goals as goal
 
 -- ---- what the two masks keep of a word, and the two together
@@ -26,20 +27,6 @@ together s d e h k =
     ∙ or_block 23 (s * 2 ^ 8) e (d * 2 ^ 16) 0 (omega (arith, h)) (omega arith)
     ∙ rw (or_shifted s 8 e k, or_zero_r (d * 2 ^ 16)) (omega arith)
 
--- ---- 24 bits, extended by their sign
-
-extension : (v r : ℕ) → v < 2 ^ 24 → r < 2 ^ 32 → (r + 0x800000) % 2 ^ 32 ≡ bit_xor v 0x800000 → r ≡ v / 2 ^ 23 * 0xFF000000 + v
-extension v r h k e =
-    let bit : bit_and v 0x800000 ≡ v / 2 ^ 23 * 2 ^ 23 = and_high v 1 23 ∙ ap (λ (s : ℕ). s * 2 ^ 23) (mod-eq_of_lt (omega (arith, h))) in
-    turned (bit_xor v 0x800000) (bit_and v 0x800000) e (xor_add_and v 0x800000) bit
-  where
-    turned : (q a : ℕ) → (r + 0x800000) % 2 ^ 32 ≡ q → q + a * 2 ≡ v + 0x800000 → a ≡ v / 2 ^ 23 * 2 ^ 23 → r ≡ v / 2 ^ 23 * 0xFF000000 + v
-    turned q a e f g =
-        elim (dec_le (2 ^ 23) v) [
-          | yes l ↦ let set : v / 2 ^ 23 ≡ 1 = omega (arith, h, l) in omega (arith, h, k, set)
-          | no l ↦ let clear : v / 2 ^ 23 ≡ 0 = omega (arith, lt_of_not-le l) in omega (arith, h, k, clear)
-        ]
-
 -- ---- where the shifts bring a cell's fields
 
 module _ (x r : ℕ) (h : x < 2 ^ 16) (e : r ≡ x * 2 ^ 8 / 2 ^ 23 * 0xFF000000 + x * 2 ^ 8) where
@@ -52,15 +39,24 @@ module _ (x r : ℕ) (h : x < 2 ^ 16) (e : r ≡ x * 2 ^ 8 / 2 ^ 23 * 0xFF000000
 low_byte : (x : ℕ) → x * 2 ^ 23 % 2 ^ 32 / 2 ^ 23 % 256 ≡ x % 256
 low_byte x = omega arith
 
-unpacked : (x r : ℕ) → x < 2 ^ 16 → r < 2 ^ 32 → (r + 0x800000) % 2 ^ 32 ≡ bit_xor (x * 2 ^ 8 % 2 ^ 32) 0x800000
+-- 24 bits, extended by their sign
+extension : (v r : ℕ) → v < 2 ^ 24 → r ≡ pick (ltb v (2 ^ 23)) v (v + (2 ^ 32 - 2 ^ 24)) → r ≡ v / 2 ^ 23 * 0xFF000000 + v
+unfolding pick
+extension v r h e =
+    elim (dec_le (2 ^ 23) v) [
+      | yes l ↦ let f : r ≡ v + (2 ^ 32 - 2 ^ 24) = rw (le-ltb v (2 ^ 23) l) at e in omega (arith, f, h, l)
+      | no l ↦ let f : r ≡ v = rw (lt-ltb v (2 ^ 23) (lt_of_not-le l)) at e in omega (arith, f, h, lt_of_not-le l)
+    ]
+
+unpacked : (x r : ℕ) → x < 2 ^ 16 → r < 2 ^ 32 → r ≡ pick (ltb (x * 2 ^ 8 % 2 ^ 32) (2 ^ 23)) (x * 2 ^ 8 % 2 ^ 32) (x * 2 ^ 8 % 2 ^ 32 + (2 ^ 32 - 2 ^ 24))
     → bit_or (bit_and r 0x807F0000) (bit_and (x * 2 ^ 23 % 2 ^ 32) 0x7F800000) ≡ bf16 x
 unfolding bf16
 unpacked x r h k e =
     let under : x * 2 ^ 8 < 2 ^ 24 = omega (arith, h) in
     let whole : x * 2 ^ 8 % 2 ^ 32 ≡ x * 2 ^ 8 = omega (arith, under) in
-    let f = extension (x * 2 ^ 8) r under k (e ∙ ap (λ (v : ℕ). bit_xor v 0x800000) whole) in
+    let f = extension (x * 2 ^ 8) r under (rw whole at e) in
     rw (sign_and_digits r k, exponent (x * 2 ^ 23 % 2 ^ 32), sign x r h f, digits x r h f, low_byte x)
     (together (x / 2 ^ 15) (x / 256 % 128) (x % 256) (omega arith) (omega arith))
 
 pub returns : goal.returns
-returns c = unpacked _ _ c.ranges.cell.fits c.wrapping_sub_u32-extended.type_inv c.wrapping_sub_u32-extended.ensures.value
+returns c = unpacked _ _ c.ranges.cell.fits c.extended-signed.type_inv (c.extended-signed.ensures 23 (omega arith) refl (omega arith))

@@ -1,11 +1,8 @@
+use Rattle.std.proofs.Common.{sym, refl}
 use lib.Ieee.{to_bits}
-use Rattle.lane.proofs.Floats.{unlike_itself, like_itself}
+use Rattle.lane.proofs.Floats.{only_nan}
 use Rattle.lane.proofs.lut.bits_of.Goals as goal
 
-pub float_to_bits-result : goal.float_to_bits-result
+pub returns-then-is_nan : goal.returns-then-is_nan
 unfolding to_bits
-float_to_bits-result c = like_itself c.args.x c.if-x.false
-
-pub returns-then-x : goal.returns-then-x
-unfolding to_bits
-returns-then-x c = rw (← (unlike_itself c.args.x c.if-x.true))
+returns-then-is_nan c = rw (← (only_nan c.args.x (sym c.if-is_nan.ensures.value))) refl

@@ -1,5 +1,5 @@
-use Rattle.std.proofs.Common.{◌∙◌}
-use Rattle.lane.proofs.Fields.{no_row, less, least}
+use Rattle.std.proofs.Common.{◌∙◌, arith}
+use Rattle.lane.proofs.Fields.{no_row}
 use Rattle.lane.specs.Refusals.{limits_of}
 use Rattle.lane.proofs.refuse.limits_of.Goals as goal
 
@@ -69,6 +69,4 @@ returns-in-16 c = simp (c.in-16.is, c.row-in-16.ensures)
 
 pub returns-in_default : goal.returns-in_default
 unfolding limits_of
-returns-in_default c =
-    let op = c.args.op in
-    c.row-in_default.ensures ∙ no_row op (λ l. least op (less 1 op (less 2 op (less 3 op (less 4 op (less 5 op (less 6 op (less 7 op (less 8 op (less 9 op (less 10 op (less 11 op (less 12 op (less 13 op (less 14 op (less 15 op (less 16 op l c.in_default.in_default-own.rest.1) c.in_default.in_default-own.rest.0.1) c.in_default.in_default-own.rest.0.0.1) c.in_default.in_default-own.rest.0.0.0.1) c.in_default.in_default-own.rest.0.0.0.0.1) c.in_default.in_default-own.rest.0.0.0.0.0.1) c.in_default.in_default-own.rest.0.0.0.0.0.0.1) c.in_default.in_default-own.rest.0.0.0.0.0.0.0.1) c.in_default.in_default-own.rest.0.0.0.0.0.0.0.0.1) c.in_default.in_default-own.rest.0.0.0.0.0.0.0.0.0.1) c.in_default.in_default-own.rest.0.0.0.0.0.0.0.0.0.0.1) c.in_default.in_default-own.rest.0.0.0.0.0.0.0.0.0.0.0.1) c.in_default.in_default-own.rest.0.0.0.0.0.0.0.0.0.0.0.0.1) c.in_default.in_default-own.rest.0.0.0.0.0.0.0.0.0.0.0.0.0.1) c.in_default.in_default-own.rest.0.0.0.0.0.0.0.0.0.0.0.0.0.0.1) c.in_default.in_default-own.rest.0.0.0.0.0.0.0.0.0.0.0.0.0.0.0.1))
+returns-in_default c = c.row-in_default.ensures ∙ no_row c.args.op (λ l. omega arith)

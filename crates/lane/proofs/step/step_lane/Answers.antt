@@ -1,17 +1,16 @@
 use Rattle.std.proofs.Common.{sym, ◌∙◌, arith}
-use Rattle.lane.proofs.Answers.{accepted, refused, accepted_lane}
+use Rattle.lane.proofs.Answers.{numbered, accepted, refused, accepted_lane}
 use Rattle.lane.specs.Refusals.{lane_step}
 use Rattle.lane.specs.Words.{lane_of}
 use Rattle.lane.proofs.step.step_lane.Goals as goal
 
 pub overflow_cast-n : goal.overflow_cast-n
-unfolding lane_step
-overflow_cast-n c = let a = c.args in omega (arith, accepted_lane a.s a.lane a.i (lane_of a.own) (lane_of a.head) (sym c.lane_answer-answer.ensures ∙ c.if-answer-eq0.true))
+overflow_cast-n c = let a = c.args in omega (arith, accepted_lane a.s a.lane a.i (lane_of a.own) (lane_of a.head) (sym (c.in_default.ensures)))
 
-pub returns-then-answer-eq0 : goal.returns-then-answer-eq0
+pub returns-in-Err : goal.returns-in-Err
 unfolding lane_step
-returns-then-answer-eq0 c = accepted _ _ _ _ _ _ _ (sym c.lane_answer-answer.ensures ∙ c.if-answer-eq0.true) c.lane_words-words.ensures c.lane_cells-cells.ensures
+returns-in-Err c = refused _ _ _ _ _ _ (c.from.ensures ∙ c.in-Err.ensures) (λ z. numbered c.in-Err.why (sym c.from.ensures ∙ z))
 
-pub returns-else-answer-eq0 : goal.returns-else-answer-eq0
+pub returns : goal.returns
 unfolding lane_step
-returns-else-answer-eq0 c = refused _ _ _ _ _ _ c.lane_answer-answer.ensures c.if-answer-eq0.false
+returns c = accepted _ _ _ _ _ _ _ (sym (c.in_default.ensures)) c.lane_words.ensures c.lane_cells.ensures

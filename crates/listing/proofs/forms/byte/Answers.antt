@@ -1,9 +1,15 @@
+use Rattle.std.proofs.Common.{arith}
+use mathlib.Core.Bool.{false≢true}
 use mathlib.Core.Path.{sym, ◌∙◌}
-use Rattle.listing.proofs.Scans.{gets_nothing, gets_none, byte_missing, byte_found}
+use Rattle.listing.proofs.Scans.{byte_missing, byte_found}
 use Rattle.listing.proofs.forms.byte.Goals as goal
 
-pub returns-then-byte_at-x : goal.returns-then-byte_at-x
-returns-then-byte_at-x c = gets_nothing _ _ _ c.requires.0 (byte_missing c.args.text.now c.args.at c.args.x c.requires.1 (λ e. c.if-byte_at-x.true (c.byte_at.ensures ∙ e)))
+pub returns-in_err-get : goal.returns-in_err-get
+returns-in_err-get c = let a = c.args in rw c.from_residual.ensures (byte_missing a.text.now 0 a.x (λ l _. absurd (false≢true (c.in_err-get.ensures.lookup.2 l))))
+
+pub returns-then-branch-x : goal.returns-then-branch-x
+returns-then-branch-x c = let a = c.args in let h = c.in_ok-get.ensures.lookup.3 in
+    record { scanned = byte_found a.text.now 0 a.x h.0 (sym (h.1 0) ∙ c.if-branch-x.true); within = omega (arith, h.0) }
 
 pub returns : goal.returns
-returns c = let q = byte_found c.args.text.now c.args.at c.args.x c.requires.1 (sym c.byte_at.ensures ∙ c.if-byte_at-x.false) in gets_none _ _ _ q.0 q.1
+returns c = let a = c.args in byte_missing a.text.now 0 a.x (λ _ e. c.if-branch-x.false (c.in_ok-get.ensures.lookup.3.1 0 ∙ e))

@@ -1,14 +1,16 @@
-use native.Mathlib.Omega.{arith}
-use Rattle.listing.proofs.Names.{length_at, length_name}
-use Rattle.listing.proofs.Scans.{gets_nothing, gets_one, name_missing, name_found}
+use Rattle.std.proofs.Common.{arith, below_more}
+use mathlib.Core.Path.{sym, ◌∙◌}
+use native.Mathlib.Nat.{zero-add}
+use Rattle.listing.proofs.Scans.{begins_is, name_found, name_missing}
 use Rattle.listing.proofs.forms.op_name.Goals as goal
 
-pub returns-then-op-eq0 : goal.returns-then-op-eq0
-returns-then-op-eq0 c = gets_nothing _ _ _ c.requires (name_missing c.args.text.now c.args.at c.op_at-op.result c.op_at-op.ensures.0 c.if-op-eq0.true)
+pub returns-then-starts_with : goal.returns-then-starts_with
+returns-then-starts_with c = let a = c.args in let b = c.starts_with.ensures.value ∙ begins_is c.name_of-name.result.now a.text.now in
+    rw c.name_of-name.ensures (rw zero-add at (name_found a.text.now 0 c.loop-op.op (omega arith) (omega arith) (omega arith) (rw c.name_of-name.ensures at (sym b ∙ c.if-starts_with.true))))
 
-pub overflow_add-result : goal.overflow_add-result
-overflow_add-result c = omega (arith, length_at c.op_at-op.result (omega arith), length_name c.op_at-op.result (omega arith))
+pub loop-op-preserved : goal.loop-op-preserved
+loop-op-preserved c = let a = c.args in let b = c.starts_with.ensures.value ∙ begins_is c.name_of-name.result.now a.text.now in
+    below_more _ _ c.loop-op.invariant (λ _. rw c.name_of-name.ensures at (sym b ∙ c.if-starts_with.false))
 
 pub returns : goal.returns
-returns c = let q = name_found c.args.text.now c.args.at c.op_at-op.result c.op_at-op.ensures.0 c.if-op-eq0.false c.requires in
-    rw (length_at c.op_at-op.result (omega arith)) (gets_one _ _ _ _ q.0 q.1)
+returns c = let a = c.args in name_missing a.text.now 0 (λ k l. c.loop-op.invariant k (omega arith))

@@ -1,30 +1,28 @@
-use native.Mathlib.Omega.{arith}
+use Rattle.std.proofs.Common.{refl, arith}
+use Rattle.std.proofs.lemmas.Result.{err_from_is_err_and}
+use Rattle.runner.specs.Checks.{found_by}
 use Rattle.listing.specs.Forms.{bytes, spell}
-use Rattle.listing.proofs.LineRows.{low_rows, high_rows}
+use Rattle.listing.proofs.FormatTable.{line_form, line_numbers, line_lines}
 use Rattle.listing.proofs.Readers.{checking_more, checking_stop, checking_end}
 use Rattle.listing.proofs.reader.check_lines.Goals as goal
 
-pub plain_lines-plain-requires : goal.plain_lines-plain-requires
+pub next-requires : goal.next-requires
 unfolding bytes spell
-plain_lines-plain-requires c = ((low_rows, high_rows), c.requires.0)
+next-requires c = let v = c.loop-i.invariant in
+    (rw v.1 v.0.within, omega (arith, v.2, v.0.up_to, c.requires.1, c.requires.2), rw line_form (omega (arith, line_numbers)), omega arith)
 
-pub loop-i-init : goal.loop-i-init
-loop-i-init c = c.plain_lines-plain.ensures
-
-pub overflow_add-first : goal.overflow_add-first
-overflow_add-first c = omega (arith, c.loop-i.invariant.up_to, c.requires.1, c.requires.2)
+pub returns-in_err-numbers : goal.returns-in_err-numbers
+unfolding bytes spell
+returns-in_err-numbers c = let p = err_from_is_err_and c.from_residual.result c.from_residual.ensures.1 in let v = c.loop-i.invariant in let a = c.args in
+    rw (p.1, p.2) (checking_stop a.text.now a.from a.count c.loop-i.reader.at (found_by c.loop-i.found) c.loop-i.i v.0 c.loop-i.reader.line c.loop-i-test.true a.first v.2 c.in_err-numbers.field-0.0 (rw (line_form, v.1) at c.in_err-numbers.ensures.found))
 
 pub loop-i-preserved : goal.loop-i-preserved
-loop-i-preserved c = checking_more _ _ _ _ _ _ _ c.loop-i.invariant _ c.read_form-c.result c.loop-i-test.true c.read_form-c.ensures c.if-c.true c.first_refused-found.result c.first_refused-found.ensures
-
-pub overflow_cast-result : goal.overflow_cast-result
-overflow_cast-result c = omega (arith, c.read_form-c.ensures.few, c.loop-i.invariant.up_to, c.requires.1, c.requires.2)
-
-pub returns-else-c : goal.returns-else-c
-returns-else-c c = checking_stop _ _ _ _ _ _ _ c.loop-i.invariant _ c.read_form-c.result c.loop-i-test.true c.read_form-c.ensures c.if-c.false
-
-pub overflow_add-result : goal.overflow_add-result
-overflow_add-result c = omega (arith, c.loop-i.invariant.up_to, c.requires.1, c.requires.2)
+unfolding bytes spell
+loop-i-preserved c = let v = c.loop-i.invariant in let a = c.args in let e = c.in_ok-numbers.ensures in let there = rw (line_form, v.1) at e.found in (
+  checking_more a.text.now a.from a.count c.loop-i.reader.at (found_by c.loop-i.found) c.loop-i.i v.0 c.loop-i.reader.line c.loop-i-test.true c.next.new.self.at c.next.new.self.line c.in_ok-numbers.numbers there (found_by c.first_refused-found.result) c.first_refused-found.ensures,
+  rw e.held v.1,
+  omega (arith, there.onward, line_lines, v.2),
+)
 
 pub returns : goal.returns
-returns c = checking_end _ _ _ _ _ _ _ c.loop-i.invariant _ c.loop-i-test.false
+returns c = checking_end _ _ _ _ _ _ c.loop-i.invariant.0 c.loop-i.found refl c.loop-i-test.false

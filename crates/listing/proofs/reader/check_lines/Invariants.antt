@@ -1,9 +1,7 @@
-use Prim.Native.Nat.{◌-◌}
+use Rattle.std.proofs.Common.{◌≡◌, ◌+◌}
+use Rattle.runner.specs.Checks.{found_by}
 use Rattle.listing.specs.PrivateReader.{Checking}
 use Rattle.listing.proofs.reader.check_lines.Given as goal
 
 abbrev pub invariant-loop-i : goal.invariant-loop-i
-invariant-loop-i l = Checking l.text l.from l.count l.at l.answer l.place l.i
-
-abbrev pub decreases-loop-i : goal.decreases-loop-i
-decreases-loop-i l = l.count - l.i
+invariant-loop-i l = Checking l.text l.from l.count l.reader.at (found_by l.found) l.i × (l.reader.text.now ≡ l.text) × (l.reader.line ≡ l.first + l.i)

@@ -1,28 +1,25 @@
-use borrow.Author.Rules.{rules}
-use native.Mathlib.Omega.{arith}
+use Rattle.std.proofs.Common.{arith}
 use Rattle.listing.specs.Forms.{bytes, spell}
-use Rattle.listing.proofs.LineRows.{low_rows, high_rows}
-use Rattle.listing.proofs.Readers.{filling_room, filling_more, filling_end}
+use Rattle.listing.proofs.FormatTable.{line_form, line_numbers, line_lines}
+use Rattle.listing.proofs.Readers.{filling_there, filling_more, filling_end}
 use Rattle.listing.proofs.reader.fill_lines.Goals as goal
 
-pub fill_plain-plain-requires : goal.fill_plain-plain-requires
+pub next-requires : goal.next-requires
 unfolding bytes spell
-fill_plain-plain-requires c = ((low_rows, high_rows), (c.requires.0, (c.requires.2, c.requires.3)))
+next-requires c = let v = c.loop-i.invariant in
+    (rw v.1 v.0.within, omega (arith, v.2, v.0.up_to, c.requires.1), rw line_form (omega (arith, line_numbers)), omega arith)
 
-pub overflow_mul-n : goal.overflow_mul-n
-overflow_mul-n c = omega (arith, c.fill_plain-plain.ensures.up_to, c.requires.1)
-
-pub loop-i-init : goal.loop-i-init
-loop-i-init c = λ before f. f
-
-pub put_words-n-requires : goal.put_words-n-requires
-put_words-n-requires c = (search rules, filling_room _ _ _ _ _ _ _ _ (c.loop-i.invariant c.args.list.now c.fill_plain-plain.ensures) c.loop-i-test.true c.requires.2)
+pub unwrap-numbers-requires : goal.unwrap-numbers-requires
+unfolding bytes spell
+unwrap-numbers-requires c = let v = c.loop-i.invariant in filling_there _ _ _ _ _ _ _ v.0 _ c.loop-i-test.true _ _ (rw (line_form, v.1) at c.next.ensures.found)
 
 pub loop-i-preserved : goal.loop-i-preserved
-loop-i-preserved c = λ before f. filling_more _ _ _ _ _ _ _ _ (c.loop-i.invariant before f) c.read_form-c.result c.loop-i-test.true c.read_form-c.ensures c.put_words-n.result c.put_words-n.new.words c.put_words-n.ensures c.put_words-n.auto.words
-
-pub shape_of-list : goal.shape_of-list
-shape_of-list c = (c.loop-i.invariant c.args.list.now c.fill_plain-plain.ensures).same
+unfolding bytes spell
+loop-i-preserved c = let v = c.loop-i.invariant in let e = c.next.ensures in let there = rw (c.unwrap-numbers.ensures, line_form, v.1) at e.found in (
+  filling_more _ _ _ _ _ _ _ v.0 _ c.loop-i-test.true _ _ _ there _ _ c.put.ensures c.put.auto.out,
+  rw e.held v.1,
+  omega (arith, there.onward, line_lines, v.2),
+)
 
 pub returns : goal.returns
-returns c = filling_end _ _ _ _ _ _ _ _ (c.loop-i.invariant c.args.list.now c.fill_plain-plain.ensures) c.loop-i-test.false
+returns c = let v = c.loop-i.invariant in filling_end _ _ _ _ _ _ _ v.0 c.loop-i-test.false

@@ -1,6 +1,8 @@
+use borrow.Author.Rules.{rules}
 use lib.ListN.{length}
-use mathlib.Core.Path.{refl}
+use mathlib.Core.Path.{◌≡◌, refl, sym, ◌∙◌}
 use native.Mathlib.Omega.{arith}
+use Rattle.listing.proofs.FormatTable.{row_sound}
 use Rattle.listing.proofs.Readers.{read_long, read_head, read_headless}
 use Rattle.listing.proofs.reader.read.Goals as goal
 
@@ -8,18 +10,18 @@ pub returns-then-text-gt-TEXT_LIMIT : goal.returns-then-text-gt-TEXT_LIMIT
 returns-then-text-gt-TEXT_LIMIT c = let e = read_long (length c.args.list.now) c.args.text.now c.if-text-gt-TEXT_LIMIT.true in
     (rw e c.refused.ensures, rw e refl)
 
-pub read_rest-requires : goal.read_rest-requires
-read_rest-requires c = c.read_form-c.ensures.within
+pub next-requires : goal.next-requires
+next-requires c = (omega arith, omega arith, rw c.head.ensures.form (omega (arith, (row_sound c.of-format.result).nine)), c.head.ensures.short)
 
-pub returns-then-c : goal.returns-then-c
-returns-then-c c = let a = c.args in let r = c.read_rest.ensures in
-    let e = read_head (length a.list.now) a.text.now c.format_of-format.result c.read_form-c.result c.if-text-gt-TEXT_LIMIT.false c.format_of-format.ensures c.read_form-c.ensures c.if-c.true in
+pub returns-in-Ok : goal.returns-in-Ok
+returns-in-Ok c = let a = c.args in let r = c.read_rest.ensures in let p = c.placed-reader.ensures in
+    let there = rw (c.head.ensures.form, p.0, p.1.0, p.1.1) at c.in-Ok.ensures.found in
+    let nine : length c.in-Ok.head ≡ 9 = search rules in
+    let e = read_head (length a.list.now) a.text.now _ c.if-text-gt-TEXT_LIMIT.false c.of-format.ensures _ _ _ there ((row_sound c.of-format.result).nine ∙ sym nine) in
     (rw e r.told, rw e r.put)
 
-pub overflow_cast-c : goal.overflow_cast-c
-overflow_cast-c c = omega (arith, c.read_form-c.ensures.few)
-
-pub returns : goal.returns
-returns c = let a = c.args in
-    let e = read_headless (length a.list.now) a.text.now c.format_of-format.result c.read_form-c.result c.if-text-gt-TEXT_LIMIT.false c.format_of-format.ensures c.read_form-c.ensures c.if-c.false in
-    (rw e c.refused-2.ensures, rw e refl)
+pub returns-in-Err : goal.returns-in-Err
+returns-in-Err c = let a = c.args in let p = c.placed-reader.ensures in
+    let there = rw (c.head.ensures.form, p.0, p.1.0, p.1.1) at c.in-Err.ensures.found in
+    let e = read_headless (length a.list.now) a.text.now _ c.if-text-gt-TEXT_LIMIT.false c.of-format.ensures _ there in
+    (rw e c.refused-in-Err.ensures, rw e refl)

@@ -1,25 +1,30 @@
 use Rattle.lane.specs.Refusals.{pass}
+use Rattle.lane.proofs.Answers.{numbered}
 use Rattle.lane.proofs.Cases.{if_true, if_false, if_eq, if_ne}
 use Rattle.runner.specs.Checks.{first_answer}
 use Rattle.std.proofs.Common.{sym, refl, ◌∙◌}
+use Rattle.std.proofs.lemmas.Result.{err_from_is_err_and}
 use Rattle.runner.proofs.checks.first_answer.Goals as goal
 
-pub returns-then-is_cut : goal.returns-then-is_cut
+pub returns-in_default : goal.returns-in_default
 unfolding first_answer pass
-returns-then-is_cut c = if_ne _ _ _ _ _ c.if-is_cut.true refl
+returns-in_default c = if_ne _ _ _ _ _ (c.in_default.ensures.cases) refl
 
 pub returns-then-dst-ne16384 : goal.returns-then-dst-ne16384
 unfolding first_answer pass
-returns-then-dst-ne16384 c = if_eq _ _ _ _ _ c.if-is_cut.false (if_ne _ _ _ _ _ c.if-dst-ne16384.true refl)
+returns-then-dst-ne16384 c = if_eq _ _ _ _ _ c.in-Some.ensures.cases.long (if_ne _ _ _ _ _ c.if-dst-ne16384.true refl)
 
-pub returns-then-image_good : goal.returns-then-image_good
+pub returns-in_err-given_answer : goal.returns-in_err-given_answer
 unfolding first_answer pass
-returns-then-image_good c = if_eq _ _ _ _ _ c.if-is_cut.false (if_eq _ _ _ _ _ c.if-dst-ne16384.false (if_eq _ _ _ _ _ (sym c.given_answer-given.ensures ∙ c.if-given-eq0.true) (if_true _ _ _ _ (rw c.image_good.ensures at c.if-image_good.true) refl)))
+returns-in_err-given_answer c =
+    let p = err_from_is_err_and c.from_residual.result c.from_residual.ensures.1 in
+    let e = c.in_err-given_answer.ensures in
+    rw (p.1, p.2) (if_eq _ _ _ _ _ c.in-Some.ensures.cases.long (if_eq _ _ _ _ _ c.if-dst-ne16384.false (if_ne _ _ _ _ _ (λ z. numbered _ (e ∙ z)) e)))
 
-pub returns-then-given-eq0 : goal.returns-then-given-eq0
+pub returns-then-not-image_good : goal.returns-then-not-image_good
 unfolding first_answer pass
-returns-then-given-eq0 c = if_eq _ _ _ _ _ c.if-is_cut.false (if_eq _ _ _ _ _ c.if-dst-ne16384.false (if_eq _ _ _ _ _ (sym c.given_answer-given.ensures ∙ c.if-given-eq0.true) (if_false _ _ _ _ (rw c.image_good.ensures at c.if-image_good.false) refl)))
+returns-then-not-image_good c = if_eq _ _ _ _ _ c.in-Some.ensures.cases.long (if_eq _ _ _ _ _ c.if-dst-ne16384.false (if_eq _ _ _ _ _ (sym c.in_ok-given_answer.ensures) (if_false _ _ _ _ (rw (c.image_good.ensures, c.in-Some.ensures.cases.same) at c.if-not-image_good.true) refl)))
 
 pub returns : goal.returns
 unfolding first_answer pass
-returns c = if_eq _ _ _ _ _ c.if-is_cut.false (if_eq _ _ _ _ _ c.if-dst-ne16384.false (if_ne _ _ _ _ _ (λ z. c.if-given-eq0.false (c.given_answer-given.ensures ∙ z)) c.given_answer-given.ensures))
+returns c = if_eq _ _ _ _ _ c.in-Some.ensures.cases.long (if_eq _ _ _ _ _ c.if-dst-ne16384.false (if_eq _ _ _ _ _ (sym c.in_ok-given_answer.ensures) (if_true _ _ _ _ (rw (c.image_good.ensures, c.in-Some.ensures.cases.same) at c.if-not-image_good.false) refl)))

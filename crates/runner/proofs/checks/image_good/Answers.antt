@@ -5,18 +5,6 @@ use Rattle.runner.proofs.checks.image_good.Goals as goal
 pub loop-n-init : goal.loop-n-init
 loop-n-init c = (search rules, (union_none _ 12, (union_none _ 13, (union_none _ 14, union_none _ 23))))
 
-pub word_at-config-requires : goal.word_at-config-requires
-word_at-config-requires c = (c.requires, (omega arith, c.loop-n-test.true))
-
-pub word_at-flag-requires : goal.word_at-flag-requires
-word_at-flag-requires c = (c.requires, (omega arith, c.loop-n-test.true))
-
-pub word_at-uses-requires : goal.word_at-uses-requires
-word_at-uses-requires c = (c.requires, (omega arith, c.loop-n-test.true))
-
-pub word_at-misc-requires : goal.word_at-misc-requires
-word_at-misc-requires c = (c.requires, (omega arith, c.loop-n-test.true))
-
 pub loop-n-preserved : goal.loop-n-preserved
 loop-n-preserved c = let h = c.loop-n.invariant.1 in (omega arith, (union_more _ 12 _ _ _ h.0 c.word_at-config.ensures, (union_more _ 13 _ _ _ h.1.0 c.word_at-flag.ensures, (union_more _ 14 _ _ _ h.1.1.0 c.word_at-uses.ensures, union_more _ 23 _ _ _ h.1.1.1 c.word_at-misc.ensures))))
 

@@ -1,11 +1,21 @@
+use Rattle.lane.proofs.Answers.{numbered}
+use Rattle.lane.proofs.Cases.{if_eq, if_ne}
 use Rattle.runner.proofs.Accepted.{first, given_short}
-use Rattle.runner.specs.Checks.{run_answer}
-use Rattle.std.proofs.Common.{sym, ◌∙◌}
+use Rattle.runner.specs.Checks.{found, run_answer, then_scanned}
+use Rattle.std.proofs.Common.{ℕ, sym, ap, ◌∙◌}
+use Rattle.std.proofs.lemmas.Result.{err_from_is_err_and}
 use Rattle.runner.proofs.checks.run_answer.Goals as goal
 
-pub then_scanned-requires : goal.then_scanned-requires
-then_scanned-requires c = λ z. given_short _ _ (first _ _ _ _ (sym c.first_answer.ensures ∙ z)).list_given
+pub returns-in_err-first_answer : goal.returns-in_err-first_answer
+unfolding run_answer then_scanned
+returns-in_err-first_answer c =
+    let p = err_from_is_err_and c.from_residual.result c.from_residual.ensures.1 in
+    let e = c.in_err-first_answer.ensures in
+    rw (p.1, p.2) (if_ne _ _ _ _ _ (λ z. numbered _ (e ∙ z)) (ap (λ (n : ℕ). found n 0) e))
+
+pub scanned-requires : goal.scanned-requires
+scanned-requires c = given_short _ _ (first _ _ _ _ (sym c.in_ok-first_answer.ensures)).list_given
 
 pub returns : goal.returns
-unfolding run_answer
-returns c = rw (← c.first_answer.ensures) c.then_scanned.ensures
+unfolding run_answer then_scanned
+returns c = if_eq _ _ _ _ _ (sym c.in_ok-first_answer.ensures) c.scanned.ensures

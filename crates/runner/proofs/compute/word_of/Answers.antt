@@ -1,6 +1,6 @@
 use Rattle.lane.specs.Words.{pick}
 use Rattle.runner.specs.PrivateCompute.{word_of}
-use Rattle.std.proofs.Common.{ne_eqb}
+use Rattle.std.proofs.Common.{ne_eqb, arith}
 use Rattle.runner.proofs.compute.word_of.Goals as goal
 
 pub returns-in-6 : goal.returns-in-6
@@ -17,4 +17,4 @@ returns-in-13 c = simp (c.in-13.is, c.exexp_word.ensures)
 
 pub returns-in_default : goal.returns-in_default
 unfolding word_of pick
-returns-in_default c = simp (ne_eqb _ _ c.in_default.in_default-own.rest.0.0.1, ne_eqb _ _ c.in_default.in_default-own.rest.0.1, ne_eqb _ _ c.in_default.in_default-own.rest.1, c.value_word.ensures)
+returns-in_default c = simp (ne_eqb c.args.op 6 (omega arith), ne_eqb c.args.op 12 (omega arith), ne_eqb c.args.op 13 (omega arith), c.value_word.ensures)

@@ -5,4 +5,4 @@ use Rattle.runner.proofs.compute.word_put.Goals as goal
 
 pub returns : goal.returns
 unfolding word_with
-returns c = word_in _ _ _ _ _ _ _ c.requires.1.1.0 refl (rw (c.word_of-word.ensures, c.word_at.ensures) at (c.put.ensures _ c.requires.1.1.1))
+returns c = word_in _ _ _ _ _ _ _ c.requires.vd refl (rw (c.word_of-word.ensures, c.word_at.ensures) at (c.put.ensures _ c.requires.mask))

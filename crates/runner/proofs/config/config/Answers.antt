@@ -6,17 +6,11 @@ use Rattle.runner.specs.Image.{lane_in}
 use Rattle.runner.specs.PrivateConfig.{reached}
 use Rattle.runner.proofs.config.config.Goals as goal
 
-pub returns-then-i-eq9 : goal.returns-then-i-eq9
-returns-then-i-eq9 c = let a = c.args in let image = a.image.now in (sym (storing_none image _ c.requires.0 (λ L l. no_config a.edition a.i L (lane_in image (L % 8)) (lane_in image L) (omega arith) (omega arith))), no_counts_lem a.edition a.i image _ c.requires.1.eight (omega arith) (omega arith))
+pub returns-in_default : goal.returns-in_default
+returns-in_default c = let a = c.args in let image = a.image.now in (sym (storing_none image _ c.told-image (λ L l. no_config a.edition a.i L (lane_in image (L % 8)) (lane_in image L) (omega arith) (omega arith))), no_counts_lem a.edition a.i image _ c.requires.eight (omega arith) (omega arith))
 
-pub returns-then-i-eq10 : goal.returns-then-i-eq10
-returns-then-i-eq10 c = let a = c.args in let image = a.image.now in (sym (storing_none image _ c.requires.0 (λ L l. no_config a.edition a.i L (lane_in image (L % 8)) (lane_in image L) (omega arith) (omega arith))), no_counts_lem a.edition a.i image _ c.requires.1.eight (omega arith) (omega arith))
-
-pub config_rows-requires : goal.config_rows-requires
-config_rows-requires c = (c.requires.0, (c.config_slot.ensures.1, c.reached_masks-masks.ensures))
-
-pub count_reached-requires : goal.count_reached-requires
-count_reached-requires c = let a = c.args in let masks = c.reached_masks-masks.result in (are_marks masks 0 (λ (L : ℕ). reached a.i (lane_in a.image.now (L % 8)) (L % 8)) (row_marks masks (λ (L : ℕ). reached a.i (lane_in a.image.now (L % 8)) (L % 8)) (reached_at a.i a.image.now masks c.reached_masks-masks.ensures)), c.requires.1)
+pub count_reached-requires-clause-masks : goal.count_reached-requires-clause-masks
+count_reached-requires-clause-masks c = let a = c.args in let masks = c.reached_masks-masks.result in are_marks masks 0 (λ (L : ℕ). reached a.i (lane_in a.image.now (L % 8)) (L % 8)) (row_marks masks (λ (L : ℕ). reached a.i (lane_in a.image.now (L % 8)) (L % 8)) (reached_at a.i a.image.now masks c.reached_masks-masks.ensures))
 
 pub returns : goal.returns
-returns c = let a = c.args in let image = a.image.now in let masks = c.reached_masks-masks.result in (config_lanes image _ _ _ c.config_rows.ensures (λ L l. config_lane a.edition a.i L (lane_in image (L % 8)) (lane_in image L) _ _ c.if-i-eq9.false c.if-i-eq10.false c.config_slot.ensures.0 (column_at _ _ c.config_values-values.ensures L l)), config_counted a.edition a.i image a.stores.now _ (c.count_reached.ensures (λ (L : ℕ). reached a.i (lane_in image (L % 8)) (L % 8)) (row_marks masks (λ (L : ℕ). reached a.i (lane_in image (L % 8)) (L % 8)) (reached_at a.i image masks c.reached_masks-masks.ensures))))
+returns c = let a = c.args in let image = a.image.now in let masks = c.reached_masks-masks.result in (config_lanes image _ _ _ c.config_rows.ensures (λ L l. config_lane a.edition a.i L (lane_in image (L % 8)) (lane_in image L) _ _ c.in-Some.ensures.1.1.0 c.in-Some.ensures.1.1.1 c.in-Some.ensures.0 (column_at _ _ c.config_values-values.ensures L l)), config_counted a.edition a.i image a.stores.now _ (c.count_reached.ensures (λ (L : ℕ). reached a.i (lane_in image (L % 8)) (L % 8)) (row_marks masks (λ (L : ℕ). reached a.i (lane_in image (L % 8)) (L % 8)) (reached_at a.i image masks c.reached_masks-masks.ensures))))

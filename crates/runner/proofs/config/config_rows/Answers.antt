@@ -1,22 +1,12 @@
-use Rattle.std.proofs.Common.{sym, ◌∙◌}
 use Rattle.runner.proofs.ConfigRows.{reached_at}
-use Rattle.runner.proofs.Lanes.{turn_start, turned_length, turn_more, turn_end}
+use Rattle.runner.proofs.Lanes.{turn_start, turn_more, turn_end}
 use Rattle.runner.proofs.config.config_rows.Goals as goal
 
 pub loop-n-init : goal.loop-n-init
-loop-n-init c = turn_start _ _ c.requires.0
-
-pub word_at-requires : goal.word_at-requires
-word_at-requires c = (turned_length _ _ _ _ c.loop-n.invariant, (c.requires.1.0, c.loop-n-test.true))
-
-pub put-requires : goal.put-requires
-put-requires c = (turned_length _ _ _ _ c.loop-n.invariant, (c.requires.1.0, c.loop-n-test.true))
+loop-n-init c = turn_start _ _ c.told-image
 
 pub loop-n-preserved : goal.loop-n-preserved
-loop-n-preserved c = turn_more _ _ _ _ _ c.requires.0 c.loop-n-test.true c.loop-n.invariant (rw (c.written-word.ensures, c.word_at.ensures) at (c.put.ensures _ (reached_at _ _ _ c.requires.1.1 _ c.loop-n-test.true)))
-
-pub shape_of-image : goal.shape_of-image
-shape_of-image c = turned_length _ _ _ _ c.loop-n.invariant ∙ sym c.requires.0
+loop-n-preserved c = turn_more _ _ _ _ _ c.told-image c.loop-n-test.true c.loop-n.invariant (rw (c.written-word.ensures, c.word_at.ensures) at (c.put.ensures _ (reached_at _ _ _ c.requires.masks _ c.loop-n-test.true)))
 
 pub returns : goal.returns
 returns c = turn_end _ _ _ _ c.loop-n-test.false c.loop-n.invariant

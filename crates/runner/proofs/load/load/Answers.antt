@@ -14,4 +14,4 @@ unfolding loaded_at Rules.load
 returns-then-i-lt8 c = rw c.resolved.ensures at c.load_words.ensures
 
 pub returns-else-i-lt8 : goal.returns-else-i-lt8
-returns-else-i-lt8 c = let a = c.args in (sym (storing_none _ _ c.requires.0 (λ L l. no_load a.srcb a.a a.i L _ _ _ (lane_in a.image.now L) c.if-i-lt8.false)), counted_none _ _ c.requires.1.1.1.1.eight (λ L l. ap register_stores (no_load a.srcb a.a a.i L _ _ _ (lane_in a.image.now L) c.if-i-lt8.false) ∙ none_count))
+returns-else-i-lt8 c = let a = c.args in (sym (storing_none _ _ c.told-image (λ L l. no_load a.srcb a.a a.i L _ _ _ (lane_in a.image.now L) c.if-i-lt8.false)), counted_none _ _ c.requires.stores.eight (λ L l. ap register_stores (no_load a.srcb a.a a.i L _ _ _ (lane_in a.image.now L) c.if-i-lt8.false) ∙ none_count))

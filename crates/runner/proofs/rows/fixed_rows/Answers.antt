@@ -1,12 +1,9 @@
-use Rattle.std.proofs.Common.{◌+◌, ◌∙◌, arith, rules}
+use Rattle.std.proofs.Common.{◌+◌, ◌∙◌, arith}
 use Rattle.lane.specs.Words.{pick}
-use Rattle.runner.proofs.Filled.{spread_start, rows_more, spread_end}
+use Rattle.runner.proofs.Filled.{rows_more, spread_end}
 use Rattle.runner.proofs.Operands.{fixed_place}
 use Rattle.runner.specs.PrivateRows.{fixed_rows}
 use Rattle.runner.proofs.rows.fixed_rows.Goals as goal
-
-pub loop-n-init : goal.loop-n-init
-loop-n-init c = spread_start _ 32 128 _ (search rules)
 
 pub loop-n-preserved : goal.loop-n-preserved
 unfolding pick

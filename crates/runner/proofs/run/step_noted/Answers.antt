@@ -1,67 +1,43 @@
+use Rattle.std.proofs.Common.{arith}
 use Rattle.lane.proofs.Counted.{loadi_count, iadd_count, exexp_count, valued_count}
 use Rattle.lane.specs.Rule.{lanewise, stores_of}
 use Rattle.lane.specs.Words.{pick}
 use Rattle.runner.proofs.Quiet.{quiet_loadi, quiet_valued}
-use Rattle.runner.proofs.Steps.{kept_arm, noted_arm, iadd_leaves, exexp_leaves, noted_rest}
+use Rattle.runner.proofs.Steps.{kept_arm, noted_arm, noted_rest}
 use Rattle.runner.specs.Image.{lane_in}
-use Rattle.std.proofs.Common.{refl}
 use Rattle.runner.proofs.run.step_noted.Goals as goal
-
-pub valued-requires : goal.valued-requires
-valued-requires c = (c.requires.0, (c.requires.1.0, (c.requires.1.1.0, refl)))
-
-pub valued-requires-in-8 : goal.valued-requires-in-8
-valued-requires-in-8 c = (c.requires.0, (c.requires.1.0, (c.requires.1.1.0, refl)))
-
-pub valued-requires-in-9 : goal.valued-requires-in-9
-valued-requires-in-9 c = (c.requires.0, (c.requires.1.0, (c.requires.1.1.0, refl)))
-
-pub valued-requires-in-10 : goal.valued-requires-in-10
-valued-requires-in-10 c = (c.requires.0, (c.requires.1.0, (c.requires.1.1.0, refl)))
-
-pub valued-requires-in-11 : goal.valued-requires-in-11
-valued-requires-in-11 c = (c.requires.0, (c.requires.1.0, (c.requires.1.1.0, refl)))
-
-pub valued-requires-in_default : goal.valued-requires-in_default
-valued-requires-in_default c = (c.requires.0, (c.requires.1.0, (c.requires.1.1.0, refl)))
-
-pub iadd_words-requires : goal.iadd_words-requires
-iadd_words-requires c = (c.requires.0, (c.requires.1.0, (c.requires.1.1.0, iadd_leaves c.args.i.op c.args.i.md c.in-6.is c.requires.1.1.1.changes_no_flags)))
-
-pub exexp_words-requires : goal.exexp_words-requires
-exexp_words-requires c = (c.requires.0, (c.requires.1.0, (c.requires.1.1.0, exexp_leaves c.args.i.op c.args.i.md c.in-13.is c.requires.1.1.1.changes_no_flags)))
 
 pub returns-in-2 : goal.returns-in-2
 unfolding stores_of lanewise pick
-returns-in-2 c = let a = c.args in noted_arm a.i _ _ _ _ c.loadi.ensures c.requires.1.0 (λ L. quiet_loadi a.i (lane_in a.image.now L)) (λ L. loadi_count a.i (lane_in a.image.now L)) (λ s x dst L. simp c.in-2.is)
+returns-in-2 c = let a = c.args in noted_arm a.i _ _ _ _ c.loadi.ensures c.requires.enabled (λ L. quiet_loadi a.i (lane_in a.image.now L)) (λ L. loadi_count a.i (lane_in a.image.now L)) (λ s x dst L. simp c.in-2.is)
 
 pub returns-in-6 : goal.returns-in-6
 unfolding stores_of lanewise pick
-returns-in-6 c = let a = c.args in kept_arm a.i _ _ _ _ c.iadd_words.ensures.0 c.requires.1.0 c.iadd_words.ensures.1 (λ L. iadd_count a.i L (lane_in a.image.now L)) (λ s x dst L. simp c.in-6.is)
+returns-in-6 c = let a = c.args in kept_arm a.i _ _ _ _ c.iadd_words.ensures.0 c.requires.enabled c.iadd_words.ensures.1 (λ L. iadd_count a.i L (lane_in a.image.now L)) (λ s x dst L. simp c.in-6.is)
 
 pub returns-in-7 : goal.returns-in-7
 unfolding stores_of lanewise pick
-returns-in-7 c = let a = c.args in noted_arm a.i _ _ _ _ c.valued.ensures c.requires.1.0 (λ L. quiet_valued 7 a.i L (lane_in a.image.now L)) (λ L. valued_count 7 a.i L (lane_in a.image.now L)) (λ s x dst L. simp c.in-7.is)
+returns-in-7 c = let a = c.args in noted_arm a.i _ _ _ _ c.valued.ensures c.requires.enabled (λ L. quiet_valued 7 a.i L (lane_in a.image.now L)) (λ L. valued_count 7 a.i L (lane_in a.image.now L)) (λ s x dst L. simp c.in-7.is)
 
 pub returns-in-8 : goal.returns-in-8
 unfolding stores_of lanewise pick
-returns-in-8 c = let a = c.args in noted_arm a.i _ _ _ _ c.valued-in-8.ensures c.requires.1.0 (λ L. quiet_valued 8 a.i L (lane_in a.image.now L)) (λ L. valued_count 8 a.i L (lane_in a.image.now L)) (λ s x dst L. simp c.in-8.is)
+returns-in-8 c = let a = c.args in noted_arm a.i _ _ _ _ c.valued-in-8.ensures c.requires.enabled (λ L. quiet_valued 8 a.i L (lane_in a.image.now L)) (λ L. valued_count 8 a.i L (lane_in a.image.now L)) (λ s x dst L. simp c.in-8.is)
 
 pub returns-in-9 : goal.returns-in-9
 unfolding stores_of lanewise pick
-returns-in-9 c = let a = c.args in noted_arm a.i _ _ _ _ c.valued-in-9.ensures c.requires.1.0 (λ L. quiet_valued 9 a.i L (lane_in a.image.now L)) (λ L. valued_count 9 a.i L (lane_in a.image.now L)) (λ s x dst L. simp c.in-9.is)
+returns-in-9 c = let a = c.args in noted_arm a.i _ _ _ _ c.valued-in-9.ensures c.requires.enabled (λ L. quiet_valued 9 a.i L (lane_in a.image.now L)) (λ L. valued_count 9 a.i L (lane_in a.image.now L)) (λ s x dst L. simp c.in-9.is)
 
 pub returns-in-10 : goal.returns-in-10
 unfolding stores_of lanewise pick
-returns-in-10 c = let a = c.args in noted_arm a.i _ _ _ _ c.valued-in-10.ensures c.requires.1.0 (λ L. quiet_valued 10 a.i L (lane_in a.image.now L)) (λ L. valued_count 10 a.i L (lane_in a.image.now L)) (λ s x dst L. simp c.in-10.is)
+returns-in-10 c = let a = c.args in noted_arm a.i _ _ _ _ c.valued-in-10.ensures c.requires.enabled (λ L. quiet_valued 10 a.i L (lane_in a.image.now L)) (λ L. valued_count 10 a.i L (lane_in a.image.now L)) (λ s x dst L. simp c.in-10.is)
 
 pub returns-in-11 : goal.returns-in-11
 unfolding stores_of lanewise pick
-returns-in-11 c = let a = c.args in noted_arm a.i _ _ _ _ c.valued-in-11.ensures c.requires.1.0 (λ L. quiet_valued 11 a.i L (lane_in a.image.now L)) (λ L. valued_count 11 a.i L (lane_in a.image.now L)) (λ s x dst L. simp c.in-11.is)
+returns-in-11 c = let a = c.args in noted_arm a.i _ _ _ _ c.valued-in-11.ensures c.requires.enabled (λ L. quiet_valued 11 a.i L (lane_in a.image.now L)) (λ L. valued_count 11 a.i L (lane_in a.image.now L)) (λ s x dst L. simp c.in-11.is)
 
 pub returns-in-13 : goal.returns-in-13
 unfolding stores_of lanewise pick
-returns-in-13 c = let a = c.args in kept_arm a.i _ _ _ _ c.exexp_words.ensures.0 c.requires.1.0 c.exexp_words.ensures.1 (λ L. exexp_count a.i L (lane_in a.image.now L)) (λ s x dst L. simp c.in-13.is)
+returns-in-13 c = let a = c.args in kept_arm a.i _ _ _ _ c.exexp_words.ensures.0 c.requires.enabled c.exexp_words.ensures.1 (λ L. exexp_count a.i L (lane_in a.image.now L)) (λ s x dst L. simp c.in-13.is)
 
 pub returns-in_default : goal.returns-in_default
-returns-in_default c = let a = c.args in let rest = c.in_default.in_default-own.rest in noted_arm a.i _ _ _ _ c.valued-in_default.ensures c.requires.1.0 (λ L. quiet_valued 14 a.i L (lane_in a.image.now L)) (λ L. valued_count 14 a.i L (lane_in a.image.now L)) (λ s x dst L. noted_rest a.i.op a.i.md s x a.i L _ _ _ (lane_in a.image.now L) c.requires.1.1.1 rest.0.0.0.0.0.0.0.1 rest.0.0.0.0.0.0.1 rest.0.0.0.0.0.1 rest.0.0.0.0.1 rest.0.0.0.1 rest.0.0.1 rest.0.1 rest.1)
+returns-in_default c = let a = c.args in noted_arm a.i _ _ _ _ c.valued-in_default.ensures c.requires.enabled (λ L. quiet_valued 14 a.i L (lane_in a.image.now L)) (λ L. valued_count 14 a.i L (lane_in a.image.now L)) (λ s x dst L. noted_rest a.i.op a.i.md s x a.i L _ _ _ (lane_in a.image.now L) c.requires.noted (omega arith) (omega arith) (omega arith) (omega arith) (omega arith) (omega arith) (omega arith) (omega arith))

@@ -1,51 +1,24 @@
-use Rattle.std.proofs.Common.{ℕ, get_or, sym, ◌∙◌, arith}
+use Rattle.std.proofs.Common.{ℕ, get_or, arith}
 use Rattle.lane.specs.Words.{flag_of}
-use Rattle.runner.proofs.Counts.{counting_start, counting_more, counting_end, column_sum, room_kept, flag_le}
+use Rattle.runner.proofs.Counts.{counting_more, counting_end, column_sum, room_kept, flag_le}
 use Rattle.runner.specs.Image.{lane_in}
 use Rattle.runner.specs.PrivateSwap.{tied_by}
 use Rattle.runner.proofs.ties.count_columns.Goals as goal
 
-pub loop-j-init : goal.loop-j-init
-loop-j-init c = counting_start _ _ c.requires.1.1.eight
-
-pub tie_at-requires : goal.tie_at-requires
-tie_at-requires c = (c.requires.0, (c.requires.1.0, omega (arith, c.loop-j-test.true, c.loop-j.invariant.long)))
-
-pub tie_at-requires-in-loop-j : goal.tie_at-requires-in-loop-j
-tie_at-requires-in-loop-j c = (c.requires.0, (c.requires.1.0, omega (arith, c.loop-j-test.true, c.loop-j.invariant.long)))
-
-pub tie_at-requires-in-loop-j-2 : goal.tie_at-requires-in-loop-j-2
-tie_at-requires-in-loop-j-2 c = (c.requires.0, (c.requires.1.0, omega (arith, c.loop-j-test.true, c.loop-j.invariant.long)))
-
-pub tie_at-requires-in-loop-j-3 : goal.tie_at-requires-in-loop-j-3
-tie_at-requires-in-loop-j-3 c = (c.requires.0, (c.requires.1.0, omega (arith, c.loop-j-test.true, c.loop-j.invariant.long)))
-
 pub overflow_add-ties : goal.overflow_add-ties
-overflow_add-ties c = omega (arith, room_kept _ _ _ _ 4 (omega (arith, c.loop-j-test.true, c.loop-j.invariant.long)) c.requires.1.1 c.loop-j.invariant, flag_le _ _ c.tie_at.ensures)
+overflow_add-ties c = omega (arith, room_kept _ _ _ _ 4 (omega (arith, c.loop-j-test.true, c.loop-j.invariant.long)) c.requires.ties c.loop-j.invariant, flag_le _ _ c.tie_at.ensures)
 
 pub overflow_add-ties-in-loop-j : goal.overflow_add-ties-in-loop-j
-overflow_add-ties-in-loop-j c = omega (arith, room_kept _ _ _ _ 4 (omega (arith, c.loop-j-test.true, c.loop-j.invariant.long)) c.requires.1.1 c.loop-j.invariant, flag_le _ _ c.tie_at.ensures, flag_le _ _ c.tie_at-in-loop-j.ensures)
+overflow_add-ties-in-loop-j c = omega (arith, room_kept _ _ _ _ 4 (omega (arith, c.loop-j-test.true, c.loop-j.invariant.long)) c.requires.ties c.loop-j.invariant, flag_le _ _ c.tie_at.ensures, flag_le _ _ c.tie_at-in-loop-j.ensures)
 
 pub overflow_add-ties-in-loop-j-2 : goal.overflow_add-ties-in-loop-j-2
-overflow_add-ties-in-loop-j-2 c = omega (arith, room_kept _ _ _ _ 4 (omega (arith, c.loop-j-test.true, c.loop-j.invariant.long)) c.requires.1.1 c.loop-j.invariant, flag_le _ _ c.tie_at.ensures, flag_le _ _ c.tie_at-in-loop-j.ensures, flag_le _ _ c.tie_at-in-loop-j-2.ensures)
+overflow_add-ties-in-loop-j-2 c = omega (arith, room_kept _ _ _ _ 4 (omega (arith, c.loop-j-test.true, c.loop-j.invariant.long)) c.requires.ties c.loop-j.invariant, flag_le _ _ c.tie_at.ensures, flag_le _ _ c.tie_at-in-loop-j.ensures, flag_le _ _ c.tie_at-in-loop-j-2.ensures)
 
 pub overflow_add-ties-in-loop-j-3 : goal.overflow_add-ties-in-loop-j-3
-overflow_add-ties-in-loop-j-3 c = omega (arith, room_kept _ _ _ _ 4 (omega (arith, c.loop-j-test.true, c.loop-j.invariant.long)) c.requires.1.1 c.loop-j.invariant, flag_le _ _ c.tie_at.ensures, flag_le _ _ c.tie_at-in-loop-j.ensures, flag_le _ _ c.tie_at-in-loop-j-2.ensures, flag_le _ _ c.tie_at-in-loop-j-3.ensures)
-
-pub overflow_add-j : goal.overflow_add-j
-overflow_add-j c = omega (arith, c.loop-j-test.true, c.loop-j.invariant.long)
-
-pub overflow_add-j-in-loop-j : goal.overflow_add-j-in-loop-j
-overflow_add-j-in-loop-j c = omega (arith, c.loop-j-test.true, c.loop-j.invariant.long)
-
-pub overflow_add-j-in-loop-j-2 : goal.overflow_add-j-in-loop-j-2
-overflow_add-j-in-loop-j-2 c = omega (arith, c.loop-j-test.true, c.loop-j.invariant.long)
+overflow_add-ties-in-loop-j-3 c = omega (arith, room_kept _ _ _ _ 4 (omega (arith, c.loop-j-test.true, c.loop-j.invariant.long)) c.requires.ties c.loop-j.invariant, flag_le _ _ c.tie_at.ensures, flag_le _ _ c.tie_at-in-loop-j.ensures, flag_le _ _ c.tie_at-in-loop-j-2.ensures, flag_le _ _ c.tie_at-in-loop-j-3.ensures)
 
 pub loop-j-preserved : goal.loop-j-preserved
 loop-j-preserved c = counting_more _ _ _ _ _ (omega (arith, c.loop-j-test.true, c.loop-j.invariant.long)) c.loop-j.invariant (column_sum (λ (L : ℕ). flag_of (tied_by c.args.free (get_or c.args.c.now L 0) (get_or c.args.d.now L 0) (lane_in c.args.image.now L))) _ _ _ _ _ _ c.tie_at.ensures c.tie_at-in-loop-j.ensures c.tie_at-in-loop-j-2.ensures c.tie_at-in-loop-j-3.ensures)
-
-pub shape_of-ties : goal.shape_of-ties
-shape_of-ties c = c.loop-j.invariant.long ∙ sym c.requires.1.1.eight
 
 pub returns : goal.returns
 returns c = counting_end _ _ _ _ (omega (arith, c.loop-j-test.false, c.loop-j.invariant.long)) c.loop-j.invariant

@@ -2,17 +2,11 @@ use Rattle.runner.proofs.Counts.{tied_rows, tied_none}
 use Rattle.std.proofs.Common.{sym, le-ltb, lt-ltb}
 use Rattle.runner.proofs.ties.count_ties.Goals as goal
 
-pub count_columns-requires : goal.count_columns-requires
-count_columns-requires c = let pre = c.requires in (pre.0, (pre.1.0, pre.1.1.0))
-
-pub count_columns-requires-else-i-lt12 : goal.count_columns-requires-else-i-lt12
-count_columns-requires-else-i-lt12 c = let pre = c.requires in (pre.0, (pre.1.0, pre.1.1.0))
-
 pub returns-then-i-lt12 : goal.returns-then-i-lt12
-returns-then-i-lt12 c = tied_rows c.args.i _ c.args.image.now _ _ _ _ c.if-ties_count.true (sym (lt-ltb _ _ c.if-i-lt12.true)) c.requires.1.1.1.0 c.requires.1.1.1.1 c.count_columns.ensures
+returns-then-i-lt12 c = tied_rows c.args.i _ c.args.image.now _ _ _ _ c.if-ties_count.true (sym (lt-ltb _ _ c.if-i-lt12.true)) c.requires.c c.requires.d c.count_columns.ensures
 
 pub returns-else-i-lt12 : goal.returns-else-i-lt12
-returns-else-i-lt12 c = tied_rows c.args.i _ c.args.image.now _ _ _ _ c.if-ties_count.true (sym (le-ltb _ _ c.if-i-lt12.false)) c.requires.1.1.1.0 c.requires.1.1.1.1 c.count_columns-else-i-lt12.ensures
+returns-else-i-lt12 c = tied_rows c.args.i _ c.args.image.now _ _ _ _ c.if-ties_count.true (sym (le-ltb _ _ c.if-i-lt12.false)) c.requires.c c.requires.d c.count_columns-else-i-lt12.ensures
 
 pub returns-else-ties_count : goal.returns-else-ties_count
-returns-else-ties_count c = tied_none c.args.i c.args.image.now _ c.requires.1.1.0.eight c.if-ties_count.false
+returns-else-ties_count c = tied_none c.args.i c.args.image.now _ c.requires.ties.eight c.if-ties_count.false

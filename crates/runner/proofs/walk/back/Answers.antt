@@ -1,37 +1,40 @@
-use Rattle.runner.proofs.Walks.{lent_given, last_given, back_good, called_done, called_refused, back_made}
+use Rattle.lane.proofs.Answers.{numbered}
+use Rattle.runner.proofs.Walks.{back_good, called_done, called_refused, back_made}
 use Rattle.runner.specs.Walk.{standing, back, moved}
-use Rattle.std.proofs.Common.{sym, ◌∙◌, arith}
+use Rattle.std.proofs.Common.{sym, refl, arith}
 use Rattle.runner.proofs.walk.back.Goals as goal
 
-pub returns-then-lent-ne0 : goal.returns-then-lent-ne0
-returns-then-lent-ne0 c =
+pub returns-in-Err : goal.returns-in-Err
+returns-in-Err c =
     let a = c.args in
     let x = standing a.w a.image.now a.dst.now a.store.now in
-    called_refused back a.s a.list.now x _ (lent_given a.s a.list.now x _ c.lent_answer-lent.ensures back c.if-lent-ne0.true) c.if-lent-ne0.true
+    rw c.from.ensures (called_refused back a.s a.list.now x _ c.in-Err.ensures (numbered c.in-Err.why))
 
 pub overflow_sub-at : goal.overflow_sub-at
 overflow_sub-at c =
     let a = c.args in
-    let x = standing a.w a.image.now a.dst.now a.store.now in
-    let g = back_good a.s a.list.now x (sym (last_given a.s a.list.now x _ c.lent_answer-lent.ensures _ c.if-lent-ne0.false c.last_answer-refusal.ensures) ∙ c.if-refusal-eq0.true) in omega (arith, g.some)
+    let g = back_good a.s a.list.now (standing a.w a.image.now a.dst.now a.store.now) (sym c.in_default.ensures) in omega (arith, g.some)
 
 pub step_back-cursor-requires : goal.step_back-cursor-requires
 step_back-cursor-requires c =
     let a = c.args in
-    let x = standing a.w a.image.now a.dst.now a.store.now in
-    let g = back_good a.s a.list.now x (sym (last_given a.s a.list.now x _ c.lent_answer-lent.ensures _ c.if-lent-ne0.false c.last_answer-refusal.ensures) ∙ c.if-refusal-eq0.true) in
-    (g.passed.image_long, (g.passed.dst_long, (omega (arith, g.some, g.few), (omega (arith, g.some, g.few, g.passed.list_given.few), omega (arith, g.some, g.room)))))
-
-pub returns-then-refusal-eq0 : goal.returns-then-refusal-eq0
-unfolding moved
-returns-then-refusal-eq0 c =
-    let a = c.args in
-    let x = standing a.w a.image.now a.dst.now a.store.now in
-    called_done back a.s a.list.now x _ (last_given a.s a.list.now x _ c.lent_answer-lent.ensures _ c.if-lent-ne0.false c.last_answer-refusal.ensures) _ c.if-refusal-eq0.true
-    (back_made a.list.now a.store.now a.image.now a.dst.now _ _ a.w.at a.w.cursor _ c.step_back-cursor.ensures)
+    let g = back_good a.s a.list.now (standing a.w a.image.now a.dst.now a.store.now) (sym c.in_default.ensures) in
+    (omega (arith, g.some, g.few), (omega (arith, g.some, g.few, g.passed.list_given.few), omega (arith, g.some, g.room)))
 
 pub returns : goal.returns
+unfolding moved
 returns c =
     let a = c.args in
     let x = standing a.w a.image.now a.dst.now a.store.now in
-    called_refused back a.s a.list.now x _ (last_given a.s a.list.now x _ c.lent_answer-lent.ensures _ c.if-lent-ne0.false c.last_answer-refusal.ensures) c.if-refusal-eq0.false
+    called_done back a.s a.list.now x _ c.in_default.ensures _ refl
+    (back_made a.list.now a.store.now a.image.now a.dst.now _ _ a.w.at a.w.cursor _ (rw c.in-Some-as_mut_array.ensures.cases.same at c.step_back-cursor.ensures))
+
+pub unreachable-requires : goal.unreachable-requires
+unreachable-requires c =
+    let a = c.args in
+    c.in_default-as_mut_array.ensures.cases (back_good a.s a.list.now (standing a.w a.image.now a.dst.now a.store.now) (sym c.in_default.ensures)).passed.image_long
+
+pub unreachable-requires-in_default-as_mut_array-2 : goal.unreachable-requires-in_default-as_mut_array-2
+unreachable-requires-in_default-as_mut_array-2 c =
+    let a = c.args in
+    c.in_default-as_mut_array-2.ensures.cases (back_good a.s a.list.now (standing a.w a.image.now a.dst.now a.store.now) (sym c.in_default.ensures)).passed.dst_long

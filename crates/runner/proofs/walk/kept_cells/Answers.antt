@@ -2,11 +2,11 @@ use Rattle.lane.specs.Words.{build}
 use Rattle.runner.proofs.Walks.{kept_store, kept_none}
 use Rattle.runner.proofs.walk.kept_cells.Goals as goal
 
-pub returns-then-op-eq16 : goal.returns-then-op-eq16
-returns-then-op-eq16 c =
+pub returns-then-op-eq-STORE : goal.returns-then-op-eq-STORE
+returns-then-op-eq-STORE c =
     let a = c.args in
-    kept_store a.op a.a a.image.now a.dst.now _ _ c.if-op-eq16.true c.odd_row-odds.ensures c.cells.ensures
+    kept_store a.op a.a a.image.now a.dst.now _ _ c.if-op-eq-STORE.true c.odd_row-odds.ensures c.cells.ensures
 
 pub returns : goal.returns
 unfolding build
-returns c = kept_none _ _ _ _ c.if-op-eq16.false
+returns c = kept_none _ _ _ _ c.if-op-eq-STORE.false

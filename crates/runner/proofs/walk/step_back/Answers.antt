@@ -5,4 +5,6 @@ use Rattle.runner.proofs.walk.step_back.Goals as goal
 
 pub returns : goal.returns
 unfolding insn_at
-returns c = let a = c.args in c.bring_back.ensures ∙ entry_part _ a.k a.store.now a.dst.now
+returns c =
+    let a = c.args in
+    (rw c.in-Some.ensures.cases.same at c.bring_back.ensures) ∙ entry_part _ a.k a.store.now a.dst.now

@@ -1,4 +1,0 @@
-use Rattle.lane.proofs.compute.lz_word.Goals as goal
-
-pub returns : goal.returns
-returns c = simp c.lz_operand.ensures
