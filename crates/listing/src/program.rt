@@ -64,7 +64,7 @@ pub fn replay(text: &[u8], room: &mut [u8]) -> Reporting
     }
 }
 
-// A list that was read, written again.
+// A list that was read, written again; of what the writing says, the two that a report has.
 fn written(s: Settings, list: &[u32], room: &mut [u8]) -> Reporting
     requires { (list_answer s list.now).answer ≡ 0 }
     ensures { Report.Reports (record { answer = 0; bytes = Listing.listing s list.now }) room.old room.new result }
@@ -76,7 +76,8 @@ fn written(s: Settings, list: &[u32], room: &mut [u8]) -> Reporting
     }
 }
 
-// The whole output where a listing is to be rewritten, in a function of its own, since what follows a good reading has another promise: the same settings and list in the format that is written, in front of the lent room.
+// The whole output where a listing is to be rewritten, in a function of its own, since what follows a good reading has another promise: the same settings and list in
+// the format that is written, in front of the lent room.
 pub fn rewrite(text: &[u8], room: &mut [u8]) -> Reporting
     ensures { Report.Reports (Program.rewritten text.now) room.old room.new result }
 {

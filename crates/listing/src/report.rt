@@ -42,7 +42,7 @@ fn put_outcome(answer: u32, steps: u32, place: u32, cursor: u32, page: &mut [u8]
     render(&OUTCOME, &values, 1, page, end)
 }
 
-// The line of word `p`, where it changed.
+// The line of word `p`, where it changed. Both images are lent, each by itself, and go as two.
 fn put_change(before: &[u32], after: &[u32], p: u32, page: &mut [u8], at: usize) -> usize
     requires { (at + 29 ≤ length page.old) × (p < 384) }
     ensures { Places.Renders (Report.change_line before.now after.now p) at 29 page.old page.new result }

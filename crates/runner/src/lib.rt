@@ -88,7 +88,7 @@ struct Ended {
     counts: Tally,
 }
 
-// What an instruction goes on with: the cursor, and the stores that are owed to each lane that is enabled.
+// What an instruction goes on with: the cursor, and the stores that are owed to each lane that is enabled. These go beside the counts, since they are none of them.
 #[derive(Clone, Copy)]
 struct Onward {
     cursor: u32,

@@ -31,7 +31,8 @@ pub(crate) fn may_act(free: bool, config: u32) -> bool
     free | (config / 16 % 2 == 1)
 }
 
-// Where the word of a slot in lane `n` lies.
+// Where the word of a slot in lane `n` lies. Slots below 24, lanes below 32 and, where it is stored to, vd below 8 stand in clauses: a type of each would be made
+// anew from each number.
 fn place(slot: usize, n: usize) -> usize
     requires slot { slot < 24 }
     requires lane { n < 32 }
@@ -136,7 +137,7 @@ fn register_of(r: u32) -> u32
     if r < 16 { r } else { 15 }
 }
 
-// Whether a register is stored, by a mask with its bit set where it is.
+// Whether a register is stored, by a mask with its bit set where it is: by hand, since lane's `is_set` is lane's own.
 fn is_stored(q: u32) -> bool
     requires { q < 16 }
     ensures { result ≡ is_stored q }

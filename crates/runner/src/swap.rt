@@ -17,7 +17,8 @@ use lane::Insn;
 use lane::swap::{compared, in_mask, is_below, mask_in};
 use lane::words::LANE_CONFIG;
 
-// The mask of whether a lane swaps, from its mask of being enabled: `always` under mod 0, `free` of bit 4 for vd below 12.
+// The mask of whether a lane swaps, by masks where lane's `swaps` goes by truth values, from its mask of being enabled: `always` under mod 0, `free` of bit 4 for vd
+// below 12.
 fn swap_mask(go: u32, always: bool, free: bool, minimum: bool, config: u32, c: u32, d: u32) -> u32
     ensures { (e : Bool) → go ≡ Rows.full e → result ≡ Rows.full (((free || bit config 4) && e) && Rules.swaps always minimum (bit config 8) c d) }
 {
