@@ -8,8 +8,6 @@
 
 mod input;
 
-ghost use Rattle.std.specs.Prelude.{◌≤◌, length};
-
 use listing::program::{replay, rewrite};
 use std::rt::Env;
 
@@ -29,15 +27,18 @@ fn put<P: Print + Eprint>(rt: &P, bytes: &[u8]) {
     }
 }
 
-// Replays a listing that was read whole, or writes it again: how many bytes of the room that takes.
-fn output(text: &[u8], rewritten: bool, room: &mut [u8]) -> usize
-    ensures { result ≤ length room.new }
-{
-    if rewritten {
-        rewrite(text, room).length
-    } else {
-        replay(text, room).length
-    }
+// Replays a listing that was read whole. Each output has a room of its own, so that a report, of 11,190 bytes at most, is spared the larger one.
+fn print_report<P: Print + Eprint>(rt: &P, text: &[u8]) {
+    let mut room = [0u8; 11190];
+    let length = replay(text, &mut room).length;
+    put(rt, &room[..length]);
+}
+
+// Writes it again; 114 bytes for the head, and 45 at most for each of 1,024 lines.
+fn print_rewritten<P: Print + Eprint>(rt: &P, text: &[u8]) {
+    let mut room = [0u8; 46194];
+    let length = rewrite(text, &mut room).length;
+    put(rt, &room[..length]);
 }
 
 fn main(rt: HostRuntime) {
@@ -47,8 +48,9 @@ fn main(rt: HostRuntime) {
         let _ = rt.eprintln("can't read: a read of standard input failed");
         return;
     };
-    // A report takes 11,190 bytes at most, and what is rewritten 114 for the head and 45 for each of 1,024 lines.
-    let mut room = [0u8; 46194];
-    let taken = output(&text[..length], to_rewrite(&rt), &mut room);
-    put(&rt, &room[..taken]);
+    if to_rewrite(&rt) {
+        print_rewritten(&rt, &text[..length]);
+    } else {
+        print_report(&rt, &text[..length]);
+    }
 }

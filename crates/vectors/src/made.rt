@@ -79,14 +79,13 @@ pub(crate) fn make_image<R: Read>(input: &mut R, image: &mut [u32; IMAGE]) -> Ge
 
 // A list: how many words are given, and these, which repeat; without any it is as it was.
 pub(crate) fn make_list<R: Read>(input: &mut R, list: &mut [u32; LIST]) {
-    let (given, rest) = list.split_at_mut(place(input, LIST));
-    for word in given.iter_mut() {
+    let given = place(input, LIST);
+    for word in list[..given].iter_mut() {
         *word = number(input);
     }
-    if !given.is_empty() {
-        for again in rest.chunks_mut(given.len()) {
-            again.copy_from_slice(&given[..again.len()]);
-        }
+    // word by word: few are given, and to copy them as slices is a call for each time that they repeat
+    for i in given..LIST {
+        list[i] = list[i - given];
     }
 }
 
@@ -100,19 +99,29 @@ pub(crate) struct Host {
 }
 
 impl Host {
-    // Settings, the list, and the image, whose generator goes on with the Dst's cells.
-    pub(crate) fn read<R: Read>(input: &mut R) -> Host {
-        let mut host = Host {
-            settings: numbers(input),
+    // To be filled where it lies: a filled one that was returned would be copied, all 430,528 bytes.
+    pub(crate) fn zeros() -> Host {
+        Host {
+            settings: [0; 8],
             list: [0; LIST],
             image: [0; IMAGE],
             dst: [0; DST],
-        };
-        make_list(input, &mut host.list);
-        let mut generator = make_image(input, &mut host.image);
-        for cell in host.dst.iter_mut() {
+        }
+    }
+
+    // Settings, the list, and the image, whose generator goes on with the Dst's cells.
+    pub(crate) fn fill<R: Read>(&mut self, input: &mut R) {
+        self.settings = numbers(input);
+        make_list(input, &mut self.list);
+        let mut generator = make_image(input, &mut self.image);
+        for cell in self.dst.iter_mut() {
             *cell = generator.cell();
         }
-        host
+    }
+
+    // One of the eight settings is changed.
+    pub(crate) fn put_setting<R: Read>(&mut self, input: &mut R) {
+        let which = (number(input) % 8) as usize;
+        self.settings[which] = number(input);
     }
 }

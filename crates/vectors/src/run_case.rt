@@ -8,7 +8,8 @@ use std::io::{Read, Write};
 
 // What a host lends, and how much of the image, the Dst and the list.
 pub(crate) fn run_case<R: Read, W: Write>(input: &mut R, out: &mut W) -> io::Result<()> {
-    let mut host = Host::read(input);
+    let mut host = Host::zeros();
+    host.fill(input);
     let image = &mut host.image[..place(input, IMAGE)];
     let dst = &mut host.dst[..place(input, DST)];
     let list = &host.list[..place(input, LIST)];

@@ -44,10 +44,9 @@ enum Step {
     Back,
 }
 
-// A walk, and the host that makes its steps.
+// A walk that a host makes.
 #[derive(Drop)]
 struct Walking {
-    host: Host,
     store: [u32; STORE],
     lent: Lengths,
     walk: [u32; 2],
@@ -61,14 +60,14 @@ struct Walking {
 
 impl Walking {
     // A step over as much of each array as is lent then; the checksum goes on over what it answers and leaves.
-    fn step(&mut self, step: Step) {
+    fn step(&mut self, host: &mut Host, step: Step) {
         // Each array is lent whole and then in part: a part of a field's array is not covered by the borrow checker in one step.
-        let settings = &self.host.settings;
-        let image = &mut self.host.image[..];
+        let settings = &host.settings;
+        let image = &mut host.image[..];
         let image = &mut image[..self.lent.image];
-        let dst = &mut self.host.dst[..];
+        let dst = &mut host.dst[..];
         let dst = &mut dst[..self.lent.dst];
-        let list = &self.host.list[..self.lent.list];
+        let list = &host.list[..self.lent.list];
         let store = &mut self.store[..];
         let store = &mut store[..self.lent.store];
         let walk = &mut self.walk;
@@ -83,23 +82,17 @@ impl Walking {
     }
 
     // A step, or what a host changes between steps. The numbers are those of tests/CASES.md, and read here alone: an enum would name each arm twice.
-    fn call<R: Read>(&mut self, input: &mut R) {
+    fn call<R: Read>(&mut self, host: &mut Host, input: &mut R) {
         match number(input) {
-            1 => self.step(Step::Forward),
-            2 => self.step(Step::Back),
+            1 => self.step(host, Step::Forward),
+            2 => self.step(host, Step::Back),
             3 => put_change(input, &mut self.store),
-            4 => put_change(input, &mut self.host.image),
+            4 => put_change(input, &mut host.image),
             5 => self.walk = numbers(input),
-            6 => self.put_setting(input),
+            6 => host.put_setting(input),
             7 => self.lent = Lengths::read(input),
             _ => {}
         }
-    }
-
-    // One of the eight settings is changed.
-    fn put_setting<R: Read>(&mut self, input: &mut R) {
-        let which = (number(input) % 8) as usize;
-        self.host.settings[which] = number(input);
     }
 
     // What the beginning answered, and where the walk stands at the end.
@@ -117,8 +110,9 @@ impl Walking {
 
 // What a host lends, the four lengths, the walk's two words, and the calls.
 pub(crate) fn walk_case<R: Read, W: Write>(input: &mut R, out: &mut W) -> io::Result<()> {
+    let mut host = Host::zeros();
+    host.fill(input);
     let mut walking = Walking {
-        host: Host::read(input),
         store: [2779096485; STORE],
         lent: Lengths::read(input),
         walk: numbers(input),
@@ -126,9 +120,9 @@ pub(crate) fn walk_case<R: Read, W: Write>(input: &mut R, out: &mut W) -> io::Re
         sum: NOTHING,
     };
     let calls = number(input);
-    walking.step(Step::Begin);
+    walking.step(&mut host, Step::Begin);
     for _ in 0..calls {
-        walking.call(input);
+        walking.call(&mut host, input);
     }
     walking.print(out)
 }
