@@ -2,9 +2,10 @@
 ghost use Rattle.std.specs.Prelude.{◌≡◌, ◌^◌, ◌<◌, ◌≤◌, length};
 ghost use Rattle.listing.specs.PrivatePlaces as Places;
 ghost use Rattle.listing.specs.PrivateReader as Held;
+ghost use Rattle.listing.specs.Listing as Listing;
 
-use crate::Fault;
 use crate::forms::scan;
+use crate::{Fault, LINE};
 
 #[derive(Drop)]
 pub(crate) struct Reader<'a> {
@@ -31,5 +32,14 @@ impl<'a> Reader<'a> {
         self.at = found.at;
         self.line = found.line;
         Ok(found.numbers)
+    }
+
+    // The numbers of the instruction line that the reader stands at: that `LINE` is its form is proved here, for both loops over the lines.
+    pub(crate) fn next_line(&mut self) -> Result<[u32; 9], Fault>
+        requires { (self.old.at ≤ length self.old.text.now) × (self.old.line < 2 ^ 31) }
+        ensures held { self.new.text ≡ self.old.text }
+        ensures found { Held.Advances Listing.line self.old self.new result }
+    {
+        self.next(&LINE)
     }
 }

@@ -12,7 +12,7 @@ use crate::formats::Format;
 use crate::forms::{put, word_at};
 use crate::hold::Reader;
 use crate::lines::{LineRows, plain_end, plain_line};
-use crate::{Fault, LINE, Plain, Reading, Rest};
+use crate::{Fault, Plain, Reading, Rest};
 use lane::refuse::{instruction_answer, settings_good};
 use lane::{Insn, Refusal, Settings};
 use runner::Refused;
@@ -86,8 +86,11 @@ fn check_lines(text: &[u8], from: usize, first: u32, count: u32) -> Result<Rest,
     let mut reader = Reader::placed(text, plain.at, first + plain.lines);
     let mut found = Ok(());
     for i in plain.lines..count {
-        let numbers = reader.next(&LINE)?;
-        found = first_refused(found, i, &numbers);
+        // No `?`, so that what a fault answers is a fact that a must-fail edit can change.
+        match reader.next_line() {
+            Ok(numbers) => found = first_refused(found, i, &numbers),
+            Err(fault) => return Err(fault),
+        }
     }
     Ok(Rest {
         at: reader.at,
@@ -132,7 +135,7 @@ fn fill_lines(text: &[u8], from: usize, count: u32, list: &mut [u32])
     let plain = fill_plain(LineRows::new(), text, from, count, list);
     let mut reader = Reader::placed(text, plain.at, plain.lines);
     for i in plain.lines..count {
-        let numbers = reader.next(&LINE).unwrap();
+        let numbers = reader.next_line().unwrap();
         put(list, 6 * i as usize, &numbers[..6]);
     }
 }

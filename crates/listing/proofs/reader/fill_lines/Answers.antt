@@ -1,21 +1,16 @@
 use Rattle.std.proofs.Common.{arith}
-use Rattle.listing.specs.Forms.{bytes, spell}
-use Rattle.listing.proofs.FormatTable.{line_form, line_numbers, line_lines}
+use Rattle.listing.proofs.FormatTable.{line_lines}
 use Rattle.listing.proofs.Readers.{filling_there, filling_more, filling_end}
 use Rattle.listing.proofs.reader.fill_lines.Goals as goal
 
-pub next-requires : goal.next-requires
-unfolding bytes spell
-next-requires c = let v = c.loop-i.invariant in
-    (rw v.1 v.0.within, omega (arith, v.2, v.0.up_to, c.requires.1), rw line_form (omega (arith, line_numbers)), omega arith)
+pub next_line-requires : goal.next_line-requires
+next_line-requires c = let v = c.loop-i.invariant in (rw v.1 v.0.within, omega (arith, v.2, v.0.up_to, c.requires.1))
 
 pub unwrap-numbers-requires : goal.unwrap-numbers-requires
-unfolding bytes spell
-unwrap-numbers-requires c = let v = c.loop-i.invariant in filling_there _ _ _ _ _ _ _ v.0 _ c.loop-i-test.true _ _ (rw (line_form, v.1) at c.next.ensures.found)
+unwrap-numbers-requires c = let v = c.loop-i.invariant in filling_there _ _ _ _ _ _ _ v.0 _ c.loop-i-test.true _ _ (rw v.1 at c.next_line.ensures.found)
 
 pub loop-i-preserved : goal.loop-i-preserved
-unfolding bytes spell
-loop-i-preserved c = let v = c.loop-i.invariant in let e = c.next.ensures in let there = rw (c.unwrap-numbers.ensures, line_form, v.1) at e.found in (
+loop-i-preserved c = let v = c.loop-i.invariant in let e = c.next_line.ensures in let there = rw (c.unwrap-numbers.ensures, v.1) at e.found in (
   filling_more _ _ _ _ _ _ _ v.0 _ c.loop-i-test.true _ _ _ there _ _ c.put.ensures c.put.auto.out,
   rw e.held v.1,
   omega (arith, there.onward, line_lines, v.2),
