@@ -2,9 +2,9 @@
 use Rattle.std.proofs.Common.{◌≡◌, ℕ, ◌+◌, ◌-◌, ◌*◌, ◌/◌, ◌<◌, ◌≤◌, Bool, true, ◌&&◌, eqb, ltb, leb, List, [], ◌∷◌, ◌++◌, length, get_or, take, drop, replicate, sym, refl, ap, ◌∙◌, append_assoc, add-zero, zero-add, append-nil, arith, length-append, length-drop, length-take-le, get_or-drop, take_all, get_or-take, drop-drop, ltb-true, lt-ltb, eq-eqb, ne_eqb, leb-true}
 use lib.ListN.{get_or-replicate}
 use lib.Seq.{paste, take-paste, length-paste, take-length, take_at}
-use borrow.Rule.Slice.PartMut.{put_mid, same_len_mid, mid_len}
-use Rattle.std.proofs.lemmas.Slice.{take-put_mid}
-use Rattle.std.proofs.lemmas.List.{drop_all}
+use borrow.Rule.Slice.PartMut.{put_mid}
+use Rattle.std.proofs.lemmas.Slice.{put_mid-paste}
+use Rattle.std.proofs.lemmas.List.Edits.{paste_all}
 use Rattle.lane.specs.declared.Settings.{Settings}
 use Rattle.lane.specs.declared.Insn.{Insn}
 use Rattle.lane.specs.Words.{pick, build}
@@ -193,13 +193,18 @@ three_puts e e₁ e₂ e₃ a b c h p q r =
         ap (take (length a + length b)) q ∙ take-paste e₁ (length a) b (length b) (omega (arith, long₁)) (omega arith)
         ∙ ap (λ (x : List ℕ). x ++ take (length b) b) (put_front e e₁ a (omega arith) p) ∙ ap (λ (x : List ℕ). a ++ x) (take-length b)
 
--- what three copies, one after the other, make of an entry
+front_none : (e : List ℕ) → take 0 e ≡ []
+front_none [] = refl
+front_none (x ∷ e) = refl
+
+-- three copies, one after the other, are three puts of an entry's parts
 pub three_copies : (e image pair cells : List ℕ) → length e ≡ 802 → length image ≡ 768 → length pair ≡ 2 → length cells ≡ 32
     → put_mid 770 32 (put_mid 768 2 (image ++ drop 768 e) pair) cells ≡ image ++ (pair ++ cells)
 three_copies e image pair cells he hi hp hc =
-    ap (λ (x : List ℕ). x ++ (cells ++ drop 32 (drop 770 second))) front
-    ∙ ap (λ (x : List ℕ). (image ++ pair) ++ (cells ++ x)) (drop_all 32 (drop 770 second) (omega (arith, long, length-drop 770 second)))
-    ∙ ap (λ (x : List ℕ). (image ++ pair) ++ x) (append-nil cells)
+    three_puts e first second (put_mid 770 32 second cells) image pair cells (omega (arith, he, hi, hp, hc))
+    (ap (λ (k : ℕ). image ++ drop k e) past ∙ ap (λ (x : List ℕ). x ++ (image ++ drop (0 + length image) e)) (sym (front_none e)) ∙ sym (paste_all e 0 image (length image) refl))
+    (put_mid-paste 768 2 first pair pair (length pair) refl hp refl ∙ ap (λ (k : ℕ). paste first k pair (length pair)) (sym hi))
+    (put_mid-paste 770 32 second cells cells (length cells) refl hc refl ∙ ap (λ (k : ℕ). paste second k cells (length cells)) past_both)
     ∙ append_assoc image pair cells
   where
     first : List ℕ
@@ -208,14 +213,11 @@ three_copies e image pair cells he hi hp hc =
     second : List ℕ
     second = put_mid 768 2 first pair
 
-    wide : length first ≡ 802
-    wide = omega (arith, length-append image (drop 768 e), length-drop 768 e)
+    past : 768 ≡ 0 + length image
+    past = omega (arith, hi)
 
-    long : length second ≡ 802
-    long = same_len_mid 768 2 first pair (hp ∙ sym (mid_len 768 770 first (omega (arith, wide)))) ∙ wide
-
-    front : take 770 second ≡ image ++ pair
-    front = take-put_mid 768 2 first pair 770 (omega arith) (omega (arith, wide)) ∙ ap (λ (x : List ℕ). x ++ pair) (take_at image (drop 768 e) 768 hi)
+    past_both : 770 ≡ length image + length pair
+    past_both = omega (arith, hi, hp)
 
 -- ---- the cells of an entry
 

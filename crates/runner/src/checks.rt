@@ -171,8 +171,12 @@ pub(crate) fn first_answer(
 ) -> Result<(), Refusal>
     ensures { answer_of result ≡ Checks.first_answer s image.now dst.now list.now }
 {
-    let Some(image) = image.as_array::<768>() else {
+    let is_cut = image.len() != 768;
+    if is_cut {
         return Err(Refusal::ImageSize);
+    }
+    let Some(image) = image.as_array::<768>() else {
+        unreachable!()
     };
     if dst.len() != 16384 {
         return Err(Refusal::DstSize);
@@ -203,4 +207,24 @@ pub(crate) fn run_answer(
 {
     first_answer(s, image, dst, list)?;
     scanned(list)
+}
+
+// The number of an answer, 0 where nothing is refused.
+pub(crate) fn number_of(answer: Result<(), Refusal>) -> u32
+    ensures { result ≡ answer_of answer }
+{
+    match answer {
+        Ok(()) => 0,
+        Err(why) => u32::from(why),
+    }
+}
+
+// What a check found as number and place, both 0 where nothing is refused.
+pub(crate) fn told(found: Result<(), Refused>) -> (u32, u32)
+    ensures { Checks.found result.0 result.1 ≡ Checks.found_by found }
+{
+    match found {
+        Ok(()) => (0, 0),
+        Err(refused) => (u32::from(refused.why), refused.place),
+    }
 }

@@ -66,7 +66,10 @@ fn results(image: &Image) -> [f32; 32]
 fn answer_word(m: u32, r3: u32, answer: Option<(f32, u32)>, own: u32) -> u32
     ensures { result ≡ LutRows.stored_word (Rules.lut_stores m r3 answer) own }
 {
-    answer.map_or(own, |(x, _)| lut_word(m, r3, x))
+    match answer {
+        Some((x, _)) => lut_word(m, r3, x),
+        None => own,
+    }
 }
 
 // The slot that it is stored to, register 0's where there is no answer.

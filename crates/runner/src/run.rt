@@ -8,7 +8,7 @@ ghost use Rattle.runner.specs.PrivateRows as Rows;
 ghost use Rattle.runner.specs.PrivateCompute as Compute;
 ghost use Rattle.runner.specs.PrivateSteps as Steps;
 
-use crate::checks::run_answer;
+use crate::checks::{run_answer, told};
 use crate::compute::{changes_flags, exexp, exexp_words, iadd, iadd_words, lz, valued};
 use crate::config::config;
 use crate::load::{load, loadi};
@@ -18,7 +18,7 @@ use crate::store::store;
 use crate::swap::swap;
 use crate::tables::Tables;
 use crate::traffic::{count_enabled, once, settle};
-use crate::{Dst, Ended, Image, Onward, Outcome, Tally};
+use crate::{Dst, Ended, Image, Onward, Outcome, Tally, insn_at};
 use lane::load::{address, meets_dst, next_cursor, stride};
 use lane::{Insn, Settings, op};
 
@@ -182,8 +182,8 @@ pub(crate) fn step_list(
     };
     let mut owed: u32 = 0;
     let mut at = cursor;
-    for insn in list.as_chunks::<6>().0 {
-        let i = Insn::from(*insn);
+    for k in 0..list.len() / 6 {
+        let i = insn_at(list, k);
         if changes_flags(i.op, i.md) {
             step_flagged(i, image, &mut go, &tables, owed, &mut counts.stores);
             owed = 0;
@@ -201,11 +201,13 @@ pub(crate) fn step_list(
 pub fn run(s: Settings, image: &mut [u32], dst: &mut [u16], list: &[u32]) -> Outcome
     ensures { Run.Ran s image.old dst.old list.now result image.new dst.new }
 {
-    if let Err(refused) = run_answer(s, image, dst, list) {
+    let (answer, place) = told(run_answer(s, image, dst, list));
+    let accepted = answer == 0;
+    if !accepted {
         return Outcome {
-            answer: u32::from(refused.why),
+            answer,
             steps: 0,
-            place: refused.place,
+            place,
             cursor: s.cursor,
             ties: [0u32; 8],
             stores: [0u32; 8],

@@ -4,7 +4,7 @@ ghost use Rattle.runner.specs.Checks.{insn_at, list_limit};
 ghost use Rattle.lane.specs.Refusals.{answer_of};
 ghost use Rattle.runner.specs.Walk as Walks;
 
-use crate::checks::{first_answer, run_answer};
+use crate::checks::{first_answer, number_of, run_answer, told};
 use crate::load::{cells, odd_row};
 use crate::rows::copied;
 use crate::run::step_list;
@@ -44,10 +44,7 @@ const ENTRY: usize = 802;
 pub fn begin(s: Settings, image: &[u32], dst: &[u16], list: &[u32]) -> Begun
     ensures { result ≡ Walks.begun s image.now dst.now list.now }
 {
-    let (answer, place) = match run_answer(s, image, dst, list) {
-        Ok(()) => (0, 0),
-        Err(refused) => (u32::from(refused.why), refused.place),
-    };
+    let (answer, place) = told(run_answer(s, image, dst, list));
     Begun {
         answer,
         place,
@@ -177,11 +174,10 @@ pub fn forward(
 ) -> Walked
     ensures { Walks.Called Walks.forward s list.now (Walks.standing w image.old dst.old store.old) result.answer (Walks.standing result.walk image.new dst.new store.new) }
 {
-    if let Err(why) = forward_answer(s, w, image, dst, list, store) {
-        return Walked {
-            answer: u32::from(why),
-            walk: w,
-        };
+    let answer = number_of(forward_answer(s, w, image, dst, list, store));
+    let accepted = answer == 0;
+    if !accepted {
+        return Walked { answer, walk: w };
     }
     let Some(image) = image.as_mut_array::<768>() else {
         unreachable!()
@@ -270,11 +266,9 @@ pub fn back(
 ) -> Walked
     ensures { Walks.Called Walks.back s list.now (Walks.standing w image.old dst.old store.now) result.answer (Walks.standing result.walk image.new dst.new store.now) }
 {
-    if let Err(why) = back_answer(s, w, image, dst, list, store) {
-        return Walked {
-            answer: u32::from(why),
-            walk: w,
-        };
+    let answer = number_of(back_answer(s, w, image, dst, list, store));
+    if answer != 0 {
+        return Walked { answer, walk: w };
     }
     let at = w.at - 1;
     let Some(image) = image.as_mut_array::<768>() else {

@@ -1,7 +1,6 @@
-use Rattle.std.proofs.Common.{◌+◌, ◌*◌, ◌/◌, ◌<◌, length, sym, ap, ◌∙◌, arith}
+use Rattle.std.proofs.Common.{◌+◌, ◌*◌, length, sym, ap, ◌∙◌, arith}
 use Rattle.lane.proofs.Stores.{length_build}
 use Rattle.runner.proofs.Counts.{room_left, zeros_are, room_less}
-use Rattle.runner.proofs.Scan.{insn_in}
 use Rattle.runner.proofs.Steps.{flagged_left, reached_start, reached_more, reached_same, reached_end}
 use Rattle.runner.proofs.Tallied.{enabled_marks, room_owed}
 use Rattle.runner.specs.declared.Tally.{Tally}
@@ -9,23 +8,22 @@ use Rattle.runner.specs.PrivateSteps.{enabled_in}
 use Rattle.runner.proofs.run.step_list.Goals as goal
 use Rattle.runner.proofs.run.step_list.Goals.{then-changes_flags, else-changes_flags}
 
-pub loop-insn-init : goal.loop-insn-init
-loop-insn-init c = (omega arith, reached_start _ _ _ _ _ _ _ _ c.told-image c.told-dst c.enabled_row.ensures zeros_are zeros_are)
+pub loop-k-init : goal.loop-k-init
+loop-k-init c = (omega arith, reached_start _ _ _ _ _ _ _ _ c.told-image c.told-dst c.enabled_row.ensures zeros_are zeros_are)
 
 pub step_flagged-requires-clause-stores : goal.step_flagged-requires-clause-stores
-step_flagged-requires-clause-stores c = let inv = c.loop-insn.invariant in room_owed _ _ _ _ _ _ _ (omega (arith, inv.0, c.requires)) inv.1.few inv.1.eight inv.1.stores_is
+step_flagged-requires-clause-stores c = let inv = c.loop-k.invariant in room_owed _ _ _ _ _ _ _ (omega (arith, inv.0, c.requires)) inv.1.few inv.1.eight inv.1.stores_is
 
 pub step_lanes-next-requires-clause-ties : goal.step_lanes-next-requires-clause-ties
-step_lanes-next-requires-clause-ties c = let inv = c.loop-insn.invariant in room_left _ _ _ _ _ (omega (arith, inv.0, c.requires)) inv.1.ties_is
+step_lanes-next-requires-clause-ties c = let inv = c.loop-k.invariant in room_left _ _ _ _ _ (omega (arith, inv.0, c.requires)) inv.1.ties_is
 
 pub step_lanes-next-requires-clause-stores : goal.step_lanes-next-requires-clause-stores
-step_lanes-next-requires-clause-stores c = let inv = c.loop-insn.invariant in room_owed _ _ _ _ _ _ _ (omega (arith, inv.0, c.requires)) inv.1.few inv.1.eight inv.1.stores_is
+step_lanes-next-requires-clause-stores c = let inv = c.loop-k.invariant in room_owed _ _ _ _ _ _ _ (omega (arith, inv.0, c.requires)) inv.1.few inv.1.eight inv.1.stores_is
 
-pub loop-insn-preserved : goal.loop-insn-preserved
-loop-insn-preserved c =
-    let inv = c.loop-insn.invariant.1 in
-    let l : c.loop-insn.insn-index < length c.args.list.now / 6 = omega (arith, c.as_chunks.ensures.front_len) in
-    let i = c.from-i.ensures ∙ insn_in c.as_chunks.result.0.now c.args.list.now c.loop-insn.insn-index c.as_chunks.ensures.front l in
+pub loop-k-preserved : goal.loop-k-preserved
+loop-k-preserved c =
+    let inv = c.loop-k.invariant.1 in
+    let i = c.insn_at-i.ensures in
     let flags = c.changes_flags.ensures in (
       omega arith,
       elim c.if-changes_flags.branch [
@@ -35,7 +33,7 @@ loop-insn-preserved c =
     )
 
 pub count_enabled-requires : goal.count_enabled-requires
-count_enabled-requires c = let inv = c.loop-insn.invariant in room_less (4 * c.loop-insn.owed) (4 * c.loop-insn.owed + 28) _ (omega arith) (room_owed _ _ _ _ _ _ _ (omega (arith, inv.0, c.requires)) inv.1.few inv.1.eight inv.1.stores_is)
+count_enabled-requires c = let inv = c.loop-k.invariant in room_less (4 * c.loop-k.owed) (4 * c.loop-k.owed + 28) _ (omega arith) (room_owed _ _ _ _ _ _ _ (omega (arith, inv.0, c.requires)) inv.1.few inv.1.eight inv.1.stores_is)
 
 pub returns : goal.returns
-returns c = let inv = c.loop-insn.invariant.1 in reached_end _ _ _ _ _ _ _ _ _ _ _ _ _ _ inv (omega arith) (c.count_enabled.ensures (enabled_in c.loop-insn.image) (enabled_marks _ _ inv.enabled_is))
+returns c = let inv = c.loop-k.invariant.1 in reached_end _ _ _ _ _ _ _ _ _ _ _ _ _ _ inv (omega arith) (c.count_enabled.ensures (enabled_in c.loop-k.image) (enabled_marks _ _ inv.enabled_is))
