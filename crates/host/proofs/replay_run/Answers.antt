@@ -1,11 +1,13 @@
 use Prim.Native.Nat.{ℕ}
-use mathlib.Core.Path.{◌≡◌, ap, ◌∙◌}
+use mathlib.Core.Path.{◌≡◌, refl, sym, ap, ◌∙◌}
 use mathlib.Core.List.{List, [], ◌∷◌, ◌++◌, append_assoc}
-use lib.ListN.{length, drop, length-append, length-drop, drop_of_length-le}
+use lib.ListN.{length, get_or, drop, length-append, length-drop, drop_of_length-le}
 use lib.Seq.{take-append_seam, drop-append_seam}
 use borrow.Rule.Slice.PartMut.{put_mid, post_of}
 use native.Mathlib.Omega.{arith}
 use Rattle.std.proofs.lemmas.List.{append-nil}
+use Rattle.lane.specs.Words.{build}
+use Rattle.lane.proofs.Stores.{build_own}
 use Rattle.runner.specs.declared.Outcome.{Outcome}
 use Rattle.runner.proofs.Steps.{eight_counts}
 use Rattle.listing.specs.Listing.{settings_of}
@@ -15,6 +17,20 @@ use Rattle.host.proofs.replay_run.Goals as goal
 -- a part put after others, in front of what it covers
 put_after : (a n : ℕ) (front rest part : List ℕ) → length front ≡ a → put_mid a n (front ++ rest) part ≡ front ++ (part ++ drop n rest)
 put_after a n front rest part e = rw (← e, take-append_seam front rest, drop-append_seam front rest)
+
+-- eight words are those of a column's counts where each is
+eight_words : (xs ys : List ℕ) → length xs ≡ 8 → length ys ≡ 8
+    → get_or xs 0 0 ≡ get_or ys 0 0
+    → get_or xs 1 0 ≡ get_or ys 1 0
+    → get_or xs 2 0 ≡ get_or ys 2 0
+    → get_or xs 3 0 ≡ get_or ys 3 0
+    → get_or xs 4 0 ≡ get_or ys 4 0
+    → get_or xs 5 0 ≡ get_or ys 5 0
+    → get_or xs 6 0 ≡ get_or ys 6 0
+    → get_or xs 7 0 ≡ get_or ys 7 0
+    → xs ≡ ys
+unfolding build
+eight_words xs ys m n a b c d e f g h = sym (build_own 8 xs m) ∙ cc (a, b, c, d, e, f, g, h) ∙ build_own 8 ys n
 
 -- a run's twenty words, put part by part over those that were lent
 laid_out :
@@ -38,5 +54,7 @@ unfolding settings_of
 returns-clause-outcome_after c =
     let a = c.args in
     laid_out c.run-o.result _ _ _ _ a.outcome.now
-    c.copy_from_slice.ensures.after c.copy_from_slice-2.ensures.after c.copy_from_slice-3.ensures.after
+    c.copy_from_slice.ensures.after
+    (c.copy_from_slice-2.ensures.after ∙ eight_words _ _ (omega arith) (omega arith) refl refl refl refl refl refl refl refl)
+    (c.copy_from_slice-3.ensures.after ∙ eight_words _ _ (omega arith) (omega arith) refl refl refl refl refl refl refl refl)
     (rw (← c.from.ensures) c.run-o.ensures.outcome_is) (eight_counts _ a.image.now a.dst.now a.list.now) (omega arith)
