@@ -162,7 +162,7 @@ fn given_answer(s: Settings, list: &[u32]) -> Result<(), Refusal>
     Ok(())
 }
 
-// 1 to 6, in that order.
+// 1 to 6, in that order. That the image is cut has a name of its own, since a must-fail edit changes it.
 pub(crate) fn first_answer(
     s: Settings,
     image: &[u32],

@@ -62,7 +62,7 @@ fn results(image: &Image) -> [f32; 32]
     sums(&b, &k)
 }
 
-// The word that an answer leaves where its register holds `own`.
+// The word that an answer leaves where its register holds `own`. By a match, since with `map_or` each lane has a branch more.
 fn answer_word(m: u32, r3: u32, answer: Option<(f32, u32)>, own: u32) -> u32
     ensures { result ≡ LutRows.stored_word (Rules.lut_stores m r3 answer) own }
 {

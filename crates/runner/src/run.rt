@@ -162,7 +162,7 @@ fn step_lanes(
 
 // All instructions of a list in turn, from a cursor; the cursor after them, the ties that they met, and the stores that they made. What lasts through them is made
 // once; `owed` are the stores that the counters lack of each lane that is enabled. The limit is a clause here and in `scanned`: a type for a list within it would be
-// made in four places.
+// made in four places. By index, since a must-fail edit changes where the steps end.
 pub(crate) fn step_list(
     s: Settings,
     cursor: u32,
@@ -197,7 +197,7 @@ pub(crate) fn step_list(
     Ended { cursor: at, counts }
 }
 
-// A run of a list over an image and a Dst: a refusal leaves both untouched, and counts nothing.
+// A run of a list over an image and a Dst: a refusal leaves both untouched, and counts nothing. Whether it is accepted has a name, since a must-fail edit changes it.
 pub fn run(s: Settings, image: &mut [u32], dst: &mut [u16], list: &[u32]) -> Outcome
     ensures { Run.Ran s image.old dst.old list.now result image.new dst.new }
 {

@@ -163,7 +163,7 @@ fn forward_answer(
     next_answer(w.at, list, store.len())
 }
 
-// A step forward: a refusal leaves all as it was.
+// A step forward: a refusal leaves all as it was. Whether it is accepted has a name, since a must-fail edit changes it.
 pub fn forward(
     s: Settings,
     w: Walk,
